@@ -1,0 +1,75 @@
+// Old: whole grams in 32 bits of two's complement, results taken modulo 2^32.
+use arithmetic::Arithmetic;
+use arithmetic::ArithmeticFault;
+use weight::Weight;
+ghost use mathlib.Core.Path.{_≡_};
+ghost use lib.IntN.{_+ℤ_, _-ℤ_, _*ℤ_};
+ghost use lib.Signed.{quotZ};
+ghost use Rattle.std.specs.Vec.{made};
+ghost use Rattle.old.specs.OfOld.{old-rules};
+ghost use Rattle.old.specs.Modulo.{Wraps};
+
+// A place of 32 bits; every number in it is a value.
+#[derive(Clone, Copy, PartialEq, Eq, Debug)]
+pub struct Old {
+    pub grams: i32,
+}
+
+// Beside the rule, each operation promises that its answer is the one number in range that is congruent to the
+// exact result modulo 2^32.
+pub impl Arithmetic for Old as OldArithmetic {
+    ghost rules = { old-rules };
+
+    fn whole(weight: Weight) -> Old {
+        Old {
+            grams: weight.grams(),
+        }
+    }
+
+    fn plus(self, other: Old) -> Result<Old, ArithmeticFault>
+        ensures rule { λ r. ⌜ r ≡ old-rules .plus self other ⌝ }
+        ensures congruent { λ r. ⌜ made r (λ v. Wraps (self .grams +ℤ other .grams) (v .grams)) ⌝ }
+    {
+        Ok(Old {
+            grams: self.grams.wrapping_add(other.grams),
+        })
+    }
+
+    fn minus(self, other: Old) -> Result<Old, ArithmeticFault>
+        ensures rule { λ r. ⌜ r ≡ old-rules .minus self other ⌝ }
+        ensures congruent { λ r. ⌜ made r (λ v. Wraps (self .grams -ℤ other .grams) (v .grams)) ⌝ }
+    {
+        Ok(Old {
+            grams: self.grams.wrapping_sub(other.grams),
+        })
+    }
+
+    fn times(self, other: Old) -> Result<Old, ArithmeticFault>
+        ensures rule { λ r. ⌜ r ≡ old-rules .times self other ⌝ }
+        ensures congruent { λ r. ⌜ made r (λ v. Wraps (self .grams *ℤ other .grams) (v .grams)) ⌝ }
+    {
+        Ok(Old {
+            grams: self.grams.wrapping_mul(other.grams),
+        })
+    }
+
+    fn over(self, other: Old) -> Result<Old, ArithmeticFault>
+        ensures rule { λ r. ⌜ r ≡ old-rules .over self other ⌝ }
+        ensures congruent { λ r. ⌜ made r (λ v. Wraps (quotZ (self .grams) (other .grams)) (v .grams)) ⌝ }
+    {
+        if other.grams == 0 {
+            return Err(ArithmeticFault::DivisorZero);
+        }
+        Ok(Old {
+            grams: self.grams.wrapping_div(other.grams),
+        })
+    }
+
+    fn positive(self) -> bool {
+        self.grams > 0
+    }
+
+    fn shown(self) -> i32 {
+        self.grams
+    }
+}

@@ -1,0 +1,6 @@
+// Weights: whole grams within the limit that every channel, tare and number of a recipe keeps.
+mod weight;
+
+pub use weight::Weight;
+pub use weight::WeightDebug;
+pub use weight::WeightPartialEq;
