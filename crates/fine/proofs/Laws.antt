@@ -5,7 +5,7 @@ use Prim.Native.Nat.{ℕ, suc, _≤_, _^_}
 use native.Mathlib.Omega.{arith}
 use lib.Dec.{T}
 use lib.IntN.{ℤ, pos, negsuc, natAbs}
-use lib.Ieee.{Float, nan, inf, fin, binary64, add, sub, mul, div, eq, lt, le, ofInt, toSigned, round}
+use lib.Ieee.{Float, nan, inf, fin, binary64, add, sub, mul, le, ofInt, toSigned, round}
 use lib.Ieee.Bits.{is-true}
 use lib.Ieee.Back.{round-whole}
 use lib.Ieee.Exact.{HasValue}
@@ -17,7 +17,7 @@ use Rattle.std.proofs.shelf.Tests.{cond-true}
 use Rattle.arithmetic.specs.declared.fault.ArithmeticFault.the-variants.{OutOfRange, DivisorZero}
 use Rattle.fine.specs.declared.Fine.{Fine}
 use Rattle.arithmetic.specs.Rules.{Answer, Rules, Lawful, OfValues, counts}
-use Rattle.fine.specs.OfFine.{naught, largest, is-value, place, counted, answered, fine-rules}
+use Rattle.fine.specs.OfFine.{naught, largest, is-value, above-zero, place, counted, answered, divided, fine-rules}
 
 -- ---- a whole number up to the largest is a value
 unsigned : (x : Float) (s : Bool) (n : ℕ) → HasValue x s n 1 → HasValue (withSign false x) false n 1
@@ -67,9 +67,6 @@ unless : (b : Bool) (x : Float) → Closed (cond b (Err DivisorZero) (answered x
 unless true x = tt
 unless false x = closed x
 
-abbrev divided : Float → Float → Answer Fine
-divided x y = cond (eq y naught) (Err DivisorZero) (answered (div binary64 x y))
-
 pub fine-lawful : Lawful fine-rules
 fine-lawful = record {
   whole = whole-value;
@@ -77,6 +74,6 @@ fine-lawful = record {
   minus = record { counting = counting (λ x y. answered (sub binary64 x y)); closed = λ a b. closed _ };
   times = record { counting = counting (λ x y. answered (mul binary64 x y)); closed = λ a b. closed _ };
   over = record { counting = counting divided; closed = λ a b. unless _ _ };
-  positive = λ v. ap (λ x. lt naught x) (counted-counts v);
+  positive = λ v. ap above-zero (counted-counts v);
   shown = λ v. ap (toSigned 31) (counted-counts v);
 }

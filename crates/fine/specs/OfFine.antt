@@ -31,7 +31,14 @@ counted v = cond (is-value (v .grams)) (v .grams) naught
 abbrev pub answered : Float → Answer Fine
 answered x = cond (is-value x) (Ok (place x)) (Err OutOfRange)
 
--- eq holds of +0.0 and -0.0; toSigned 31 drops the fraction toward zero
+-- eq holds of +0.0 and -0.0, so a divisor of either sign is zero
+abbrev pub divided : Float → Float → Answer Fine
+divided x y = cond (eq y naught) (Err DivisorZero) (answered (div binary64 x y))
+
+abbrev pub above-zero : Float → Bool
+above-zero x = lt naught x
+
+-- toSigned 31 drops the fraction toward zero
 abbrev pub fine-rules : Rules Fine
 fine-rules = record {
   value = λ a. is-value (a .grams);
@@ -39,7 +46,7 @@ fine-rules = record {
   plus = λ a b. answered (add binary64 (counted a) (counted b));
   minus = λ a b. answered (sub binary64 (counted a) (counted b));
   times = λ a b. answered (mul binary64 (counted a) (counted b));
-  over = λ a b. cond (eq (counted b) naught) (Err DivisorZero) (answered (div binary64 (counted a) (counted b)));
-  positive = λ a. lt naught (counted a);
+  over = λ a b. divided (counted a) (counted b);
+  positive = λ a. above-zero (counted a);
   shown = λ a. toSigned 31 (counted a);
 }

@@ -4,7 +4,8 @@ use arithmetic::ArithmeticFault;
 use std::num::saturating_f64_to_i32;
 use weight::Weight;
 ghost use mathlib.Core.Path.{_≡_};
-ghost use Rattle.fine.specs.OfFine.{is-value, counted, answered, fine-rules};
+ghost use lib.Ieee.{eq};
+ghost use Rattle.fine.specs.OfFine.{naught, is-value, above-zero, counted, answered, divided, fine-rules};
 
 // A place of 64 bits, with no bound in its type: each rule tests the bound itself. What is no value (a NaN, an
 // infinity, a larger magnitude) counts as 0.
@@ -18,6 +19,19 @@ fn within(x: f64) -> bool
     ensures { λ r. ⌜ r ≡ is-value x ⌝ }
 {
     x.abs() <= 2147483647.0
+}
+
+// True of +0.0 and of -0.0.
+fn is_zero(x: f64) -> bool
+    ensures { λ r. ⌜ r ≡ eq x naught ⌝ }
+{
+    x == 0.0
+}
+
+fn is_above_zero(x: f64) -> bool
+    ensures { λ r. ⌜ r ≡ above-zero x ⌝ }
+{
+    x > 0.0
 }
 
 impl Fine {
@@ -36,6 +50,17 @@ impl Fine {
             Ok(Fine { grams: number })
         } else {
             Err(ArithmeticFault::OutOfRange)
+        }
+    }
+
+    // A divisor of 0 is judged before the range.
+    fn quotient(number: f64, divisor: f64) -> Result<Fine, ArithmeticFault>
+        ensures { λ r. ⌜ r ≡ divided number divisor ⌝ }
+    {
+        if is_zero(divisor) {
+            Err(ArithmeticFault::DivisorZero)
+        } else {
+            Fine::of(number / divisor)
         }
     }
 }
@@ -62,15 +87,11 @@ pub impl Arithmetic for Fine as FineArithmetic {
     }
 
     fn over(self, other: Fine) -> Result<Fine, ArithmeticFault> {
-        let divisor = other.number();
-        if divisor == 0.0 {
-            return Err(ArithmeticFault::DivisorZero);
-        }
-        Fine::of(self.number() / divisor)
+        Fine::quotient(self.number(), other.number())
     }
 
     fn positive(self) -> bool {
-        self.number() > 0.0
+        is_above_zero(self.number())
     }
 
     fn shown(self) -> i32 {

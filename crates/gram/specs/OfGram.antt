@@ -30,6 +30,9 @@ checked None = Err OutOfRange
 checked (Some z) = answered z
 
 -- quotZ is the quotient with its fraction dropped, toward zero
+abbrev pub divided : ℤ → ℤ → Answer Gram
+divided number divisor = cond (eqb (natAbs divisor) 0) (Err DivisorZero) (answered (quotZ number divisor))
+
 abbrev pub gram-rules : Rules Gram
 gram-rules = record {
   value = λ a. is-value (a .grams);
@@ -37,7 +40,7 @@ gram-rules = record {
   plus = λ a b. answered (counted a +ℤ counted b);
   minus = λ a b. answered (counted a -ℤ counted b);
   times = λ a b. answered (counted a *ℤ counted b);
-  over = λ a b. cond (eqb (natAbs (counted b)) 0) (Err DivisorZero) (answered (quotZ (counted a) (counted b)));
+  over = λ a b. divided (counted a) (counted b);
   positive = λ a. ltZ (pos 0) (counted a);
   shown = counted;
 }

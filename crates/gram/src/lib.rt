@@ -3,7 +3,7 @@ use arithmetic::Arithmetic;
 use arithmetic::ArithmeticFault;
 use weight::Weight;
 ghost use mathlib.Core.Path.{_≡_};
-ghost use Rattle.gram.specs.OfGram.{counted, checked, gram-rules};
+ghost use Rattle.gram.specs.OfGram.{counted, checked, divided, gram-rules};
 
 // A place of 32 bits. The one number that is no value, -2,147,483,648, counts as 0.
 #[derive(Clone, Copy, PartialEq, Eq, Debug)]
@@ -32,6 +32,16 @@ impl Gram {
             Some(grams) => Ok(Gram { grams }),
         }
     }
+
+    // A divisor of 0 is judged before the range.
+    fn quotient(number: i32, divisor: i32) -> Result<Gram, ArithmeticFault>
+        ensures { λ r. ⌜ r ≡ divided number divisor ⌝ }
+    {
+        if divisor == 0 {
+            return Err(ArithmeticFault::DivisorZero);
+        }
+        Gram::of(number.checked_div(divisor))
+    }
 }
 
 pub impl Arithmetic for Gram as GramArithmetic {
@@ -56,11 +66,7 @@ pub impl Arithmetic for Gram as GramArithmetic {
     }
 
     fn over(self, other: Gram) -> Result<Gram, ArithmeticFault> {
-        let divisor = other.number();
-        if divisor == 0 {
-            return Err(ArithmeticFault::DivisorZero);
-        }
-        Gram::of(self.number().checked_div(divisor))
+        Gram::quotient(self.number(), other.number())
     }
 
     fn positive(self) -> bool {

@@ -66,7 +66,3 @@ wraps-by-size (negsuc n) h = inside (negsuc n) (record { sfits = omega arith })
 
 pub quotient-wraps : (a b : ℤ) → SFits w32 a → toZ w32 (ofZ w32 (quotZ a b)) ≡ wrapped w32 (quotZ a b)
 quotient-wraps a b p = wraps-by-size (quotZ a b) (le-trans (quotient-le a b) (size-under a p))
-
-pub nonzero-size : (z : ℤ) → (ofZ w32 z ≡ 0 → ⊥) → SFits w32 z → natAbs z ≡ 0 → ⊥
-nonzero-size (pos n) h f e = h e
-nonzero-size (negsuc n) h f e = omega arith

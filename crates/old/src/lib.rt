@@ -1,4 +1,6 @@
 // Old: whole grams in 32 bits of two's complement, results taken modulo 2^32.
+mod modulo;
+
 use arithmetic::Arithmetic;
 use arithmetic::ArithmeticFault;
 use weight::Weight;
@@ -31,7 +33,7 @@ pub impl Arithmetic for Old as OldArithmetic {
         ensures congruent { λ r. ⌜ made r (λ v. Wraps (self .grams +ℤ other .grams) (v .grams)) ⌝ }
     {
         Ok(Old {
-            grams: self.grams.wrapping_add(other.grams),
+            grams: modulo::sum(self.grams, other.grams),
         })
     }
 
@@ -40,7 +42,7 @@ pub impl Arithmetic for Old as OldArithmetic {
         ensures congruent { λ r. ⌜ made r (λ v. Wraps (self .grams -ℤ other .grams) (v .grams)) ⌝ }
     {
         Ok(Old {
-            grams: self.grams.wrapping_sub(other.grams),
+            grams: modulo::difference(self.grams, other.grams),
         })
     }
 
@@ -49,7 +51,7 @@ pub impl Arithmetic for Old as OldArithmetic {
         ensures congruent { λ r. ⌜ made r (λ v. Wraps (self .grams *ℤ other .grams) (v .grams)) ⌝ }
     {
         Ok(Old {
-            grams: self.grams.wrapping_mul(other.grams),
+            grams: modulo::product(self.grams, other.grams),
         })
     }
 
@@ -61,7 +63,7 @@ pub impl Arithmetic for Old as OldArithmetic {
             return Err(ArithmeticFault::DivisorZero);
         }
         Ok(Old {
-            grams: self.grams.wrapping_div(other.grams),
+            grams: modulo::quotient(self.grams, other.grams),
         })
     }
 

@@ -1,7 +1,0 @@
-use borrow.Author.Needs.{needs}
-use Rattle.std.proofs.shelf.Signed.{wraps}
-use Rattle.old.proofs.Wrapping.{wrapped-wraps}
-use Rattle.old.proofs.OldArithmetic.times.Needs as need
-
-pub returns : need.returns
-returns c = record { rule = search (needs, wraps); congruent = search (needs, wraps, wrapped-wraps) }

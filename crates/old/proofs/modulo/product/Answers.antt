@@ -1,0 +1,7 @@
+use borrow.Author.Needs.{needs}
+use Rattle.std.proofs.shelf.Signed.{wraps}
+use Rattle.old.proofs.Wrapping.{wrapped-wraps}
+use Rattle.old.proofs.modulo.product.Needs as need
+
+pub returns : need.returns
+returns c = record { bits = search (needs, wraps); congruent = search (needs, wraps, wrapped-wraps) }
