@@ -1,0 +1,5 @@
+pub mod Cuts
+pub mod Glue
+pub mod Lines
+pub mod Lists
+pub mod Values

@@ -1,0 +1,9 @@
+pub mod Answers
+pub mod Faults
+pub mod Intervals
+pub mod OfBoard
+pub mod OfStep
+pub mod OfTare
+pub mod Refusals
+pub mod Settings
+pub mod Worked

@@ -1,0 +1,3 @@
+pub mod Obeyed
+pub mod OfHoppers
+pub mod Totals
