@@ -70,15 +70,29 @@ fn record(rt: &LibcRuntime, heap: Global, mut input: impl BufRead + Drop) -> Res
     Ok(())
 }
 
+// The record of the session in a file.
+fn record_of(rt: &LibcRuntime, heap: Global, name: &str) -> Result<(), AnyError> {
+    match File::open(rt, name) {
+        Ok(file) => record(rt, heap, BufReader::new(file)),
+        Err(error) => Err(format!(heap, "{name}: {error}")?.into()),
+    }
+}
+
 fn run(rt: &LibcRuntime) -> Result<(), AnyError> {
     let heap = rt.alloc();
     let mut args = env::args(rt)?;
     let _program = args.next();
-    match args.next() {
-        None => record(rt, heap, BufReader::new(rt.stdin())),
-        Some(word) if word.as_str() == "--help" => Ok(rt.print(HELP)?),
-        Some(name) => record(rt, heap, BufReader::new(File::open(rt, name.as_str())?)),
+    let Some(word) = args.next() else {
+        return record(rt, heap, BufReader::new(rt.stdin()));
+    };
+    if args.next().is_some() {
+        return Err("one session at a time; --help lists the commands".into());
     }
+    if word.as_str() == "--help" {
+        rt.print(HELP)?;
+        return Ok(());
+    }
+    record_of(rt, heap, word.as_str())
 }
 
 fn main(rt: LibcRuntime) -> Result<(), AnyError> {

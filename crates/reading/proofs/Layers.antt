@@ -6,7 +6,7 @@ use mathlib.Core.Logic.{_≢_, inl, inr}
 use Prim.Native.Nat.{ℕ, zero, suc, _-_, _/_, _≤_, _<_}
 use native.Mathlib.Nat.{div-one, le-trans, mul-one}
 use native.Mathlib.Omega.{arith}
-use lib.Dec.{eqb, leb}
+use lib.Dec.{eqb}
 use lib.IntN.{ℤ, pos, negsuc, natAbs, negℤ, _-ℤ_}
 use lib.ListN.{getD, length, replicate, set}
 use Rattle.std.specs.declared.result.Result.the-variants.{Ok, Err}
@@ -14,13 +14,14 @@ use Rattle.std.proofs.shelf.Lists.{getD-set-other, getD-set-same, length-set}
 use Rattle.std.proofs.shelf.Tests.{and-parts, both-ways, cases-bool, cases-eq, cond-false, cond-true, eq-eqb, leb-true, ne-eqb}
 use Rattle.weight.specs.Limit.{in-limit, limit}
 use Rattle.reading.specs.Answers.{Lawful, Reading, held-to-limit, is-channel}
-use Rattle.reading.specs.Intervals.{dropped, interval-setting, lawful-interval}
+use Rattle.reading.specs.Drops.{dropped}
+use Rattle.reading.specs.Intervals.{interval-setting, lawful-interval}
 use Rattle.reading.specs.OfBoard.{board-answer, has-record, no-record, record-answer, weight-or-motion}
 use Rattle.reading.specs.OfStep.{step-setting, stepped}
 use Rattle.reading.specs.OfTare.{tare-at, tared, tared-answer}
 use Rattle.reading.specs.Settings.{with-answer}
 use Rattle.reading.specs.declared.board.Record.{Record}
-use Rattle.reading.specs.declared.fault.ReadingFault.the-variants.{NotFitted, NotAtRest, BeyondLimit}
+use Rattle.reading.specs.declared.fault.ReadingFault.the-variants.{NotAtRest, BeyondLimit}
 use Rattle.reading.specs.declared.refusal.SettingRefusal.{SettingRefusal}
 use Rattle.reading.specs.declared.refusal.SettingRefusal.the-variants.{BadInterval}
 use Rattle.reading.proofs.Quotients.{drop-size}

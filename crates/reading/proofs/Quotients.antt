@@ -1,7 +1,7 @@
 -- Division toward zero, and what is left of a weight that is dropped to a multiple.
-use mathlib.Core.Path.{_≡_, refl, sym, ap, _∙_}
+use mathlib.Core.Path.{_≡_, refl, ap, _∙_}
 use mathlib.Core.Bool.{true}
-use Prim.Native.Nat.{ℕ, zero, suc, _+_, _*_, _/_, _%_, _^_, _≤_, _<_}
+use Prim.Native.Nat.{ℕ, zero, suc, _+_, _*_, _/_, _^_, _≤_, _<_}
 use native.Mathlib.Nat.{div-add-mod', div-le-self, div-mul-le-self, le-trans, mod-lt, mul-mod-left, zero-mul}
 use native.Mathlib.Omega.{arith}
 use lib.IntN.{ℤ, pos, negsuc, natAbs, negℤ, _*ℤ_}
@@ -15,7 +15,8 @@ use Rattle.std.proofs.shelf.Signed.{ints, toZ-ofZ, toZ-pos}
 use Rattle.std.proofs.shelf.Tests.{false≢true}
 use Rattle.weight.specs.Limit.{limit, weighed}
 use Rattle.weight.specs.declared.weight.Weight.{Weight}
-use Rattle.reading.specs.Intervals.{Dropped, dropped, lawful-interval}
+use Rattle.reading.specs.Drops.{Dropped, dropped}
+use Rattle.reading.specs.Intervals.{lawful-interval}
 use Rattle.reading.proofs.Rounds.{rule}
 use Rattle.reading.proofs.Weighed.{within}
 

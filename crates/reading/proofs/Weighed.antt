@@ -9,7 +9,7 @@ use lib.Signed.{leZ, ltZ}
 use Rattle.std.specs.Options.{isSome, mapped}
 use Rattle.std.specs.declared.option.Option.{Option}
 use Rattle.std.specs.declared.option.Option.the-variants.{Some, None}
-use Rattle.std.proofs.shelf.Tests.{cases-bool, cond-false, cond-true, false≢true, le-leb}
+use Rattle.std.proofs.shelf.Tests.{cases-bool, cond-false, cond-true, false≢true, le-leb, ltb-true}
 use Rattle.weight.specs.Limit.{in-limit, limit, weighed}
 use Rattle.weight.specs.declared.weight.Weight.{Weight}
 
@@ -32,6 +32,13 @@ tells w x h =
       | inr f ↦ let q : _≡_ {A = ℕ} 0 1 = cc (cond-false (in-limit x) (Some x) None f) in absurd (omega arith)
     ]
 
+pub untold : (x : ℤ) → _≡_ {A = Option ℤ} None (weighed x) → in-limit x ≡ false
+untold x h =
+    elim (cases-bool (in-limit x)) [
+      | inl t ↦ let q : _≡_ {A = ℕ} 0 1 = cc (cond-true (in-limit x) (Some x) None t) in absurd (omega arith)
+      | inr f ↦ f
+    ]
+
 pub held : (o : Option Weight) (x : ℤ) → mapped (λ w. w .grams) o ≡ weighed x → isSome o ≡ true → in-limit x ≡ true
 held None x h e = absurd (false≢true e)
 held (Some w) x h e = tells (w .grams) x h .0
@@ -39,3 +46,7 @@ held (Some w) x h e = tells (w .grams) x h .0
 pub not-negative : (z : ℤ) → ltZ z (pos 0) ≡ false → leZ (pos 0) z ≡ true
 not-negative (pos n) h = le-leb 0 n (omega arith)
 not-negative (negsuc n) h = sym h
+
+pub negative : (z : ℤ) → ltZ z (pos 0) ≡ true → leZ (pos 0) z ≡ false
+negative (pos n) h = absurd (omega (arith, ltb-true n 0 h))
+negative (negsuc n) h = refl

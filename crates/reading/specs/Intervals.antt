@@ -1,12 +1,10 @@
--- The intervals of a display, and a weight dropped toward zero to a multiple of one.
+-- The intervals of a display.
 use mathlib.Core.Path.{_≡_}
 use mathlib.Core.Bool.{Bool, true, false, cond, _||_}
 use mathlib.Core.List.{List, [], _∷_}
 use mathlib.Core.Logic.{_⊎_}
-use Prim.Native.Nat.{ℕ, suc, _+_, _*_, _/_, _%_, _^_, _≤_, _<_}
+use Prim.Native.Nat.{ℕ, _*_, _^_, _≤_}
 use lib.Dec.{eqb}
-use lib.IntN.{ℤ, pos, negsuc, natAbs, negℤ}
-use lib.Signed.{_≤ℤ_}
 use Rattle.std.specs.declared.result.Result.{Result}
 use Rattle.std.specs.declared.result.Result.the-variants.{Ok, Err}
 use Rattle.reading.specs.declared.refusal.SettingRefusal.{SettingRefusal}
@@ -35,15 +33,3 @@ pub record Rule (d : ℕ) : Type 0 where
 -- the interval d, where it is one
 abbrev pub interval-setting : ℕ → Result ℕ SettingRefusal
 interval-setting d = cond (lawful-interval d) (Ok d) (Err BadInterval)
-
-abbrev pub dropped : ℕ → ℤ → ℤ
-dropped d (pos n) = pos (n / d * d)
-dropped d (negsuc n) = negℤ (pos (suc n / d * d))
-
--- r is the multiple of d next to z on the side of zero
-pub record Dropped (d : ℕ) (z r : ℤ) : Type 0 where
-  pub multiple : natAbs r % d ≡ 0
-  pub toward : natAbs r ≤ natAbs z
-  pub next : natAbs z < natAbs r + d
-  pub above : pos 0 ≤ℤ z → pos 0 ≤ℤ r
-  pub below : z ≤ℤ pos 0 → r ≤ℤ pos 0

@@ -1,4 +1,5 @@
 pub mod Answers
+pub mod Drops
 pub mod Faults
 pub mod Intervals
 pub mod OfBoard

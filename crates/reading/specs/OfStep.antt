@@ -3,7 +3,8 @@ use mathlib.Core.Bool.{cond}
 use Prim.Native.Nat.{ℕ}
 use Rattle.std.specs.declared.result.Result.the-variants.{Ok, Err}
 use Rattle.reading.specs.Answers.{Reading}
-use Rattle.reading.specs.Intervals.{dropped, lawful-interval}
+use Rattle.reading.specs.Drops.{dropped}
+use Rattle.reading.specs.Intervals.{lawful-interval}
 use Rattle.reading.specs.Settings.{Setting}
 use Rattle.reading.specs.declared.step.Step.{Step}
 use Rattle.reading.specs.declared.refusal.SettingRefusal.the-variants.{BadInterval}

@@ -1,5 +1,5 @@
 -- What a layer of tares answers, and which tares it takes.
-use mathlib.Core.Bool.{Bool, cond, _&&_}
+use mathlib.Core.Bool.{cond, _&&_}
 use mathlib.Core.List.{List, map}
 use Prim.Native.Nat.{ℕ, _-_}
 use lib.IntN.{ℤ, pos, _-ℤ_}

@@ -64,8 +64,7 @@ impl Board {
         if Weight::new(given.grams).is_none() {
             return Err(SettingRefusal::BadWeight);
         }
-        self.records[channel as usize - 1] = given;
-        Ok(())
+        self.leave(channel, given)
     }
 
     // Writes one record as the bus does, which tests no weight.

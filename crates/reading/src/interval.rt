@@ -2,9 +2,8 @@
 ghost use mathlib.Core.Path.{_≡_};
 ghost use mathlib.Core.Bool.{true};
 ghost use Rattle.std.specs.Results.{mapped};
-ghost use Rattle.reading.specs.Intervals.{Dropped, Rule, dropped, interval-setting, lawful-interval};
+ghost use Rattle.reading.specs.Intervals.{Rule, interval-setting, lawful-interval};
 use crate::refusal::SettingRefusal;
-use weight::Weight;
 
 // 1, 2 or 5 times a power of ten, and at most 50,000 grams.
 #[derive(Clone, Copy, PartialEq, Eq, Debug)]
@@ -45,14 +44,5 @@ impl Interval {
         ensures { λ r. ⌜ r ≡ self .grams ⌝ }
     {
         self.grams
-    }
-
-    // The weight dropped toward zero to a multiple of the interval.
-    pub fn dropped(self, weight: Weight) -> Weight
-        ensures value { λ r. ⌜ r .grams ≡ dropped (self .grams) (weight .grams) ⌝ }
-        ensures rule { λ r. ⌜ Dropped (self .grams) (weight .grams) (r .grams) ⌝ }
-    {
-        let d = self.grams as i32;
-        Weight::new(weight.grams() / d * d).unwrap()
     }
 }

@@ -1,6 +1,7 @@
 // Readings of a scale: what each channel answers, from the bus records up through tares and display steps.
 mod answer;
 mod board;
+mod drop;
 mod fault;
 mod interval;
 mod refusal;

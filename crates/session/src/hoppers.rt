@@ -27,20 +27,17 @@ pub impl ReadingSource for Hoppers as HoppersSource {
 
     fn ask(&self, channel: u32) -> Result<Weight, ReadingFault> {
         let board = &self.layers.below.below;
-        let interval = self.layers.interval;
+        let stepped = Step {
+            below: board,
+            interval: self.layers.interval,
+        };
         match self.pile {
             Pile::Board => board.ask(channel),
             Pile::Tare => self.layers.below.ask(channel),
-            Pile::Step => Step {
-                below: board,
-                interval,
-            }.ask(channel),
+            Pile::Step => stepped.ask(channel),
             Pile::StepTare => self.layers.ask(channel),
             Pile::TareStep => Tare {
-                below: Step {
-                    below: board,
-                    interval,
-                },
+                below: stepped,
                 tares: self.layers.below.tares,
             }.ask(channel),
         }

@@ -6,7 +6,7 @@ use std::alloc::Global;
 use std::test::*;
 
 // Gives the lines to a new bench in turn; "" stands for no answer.
-pub fn answers(heap: Global, rows: &[(&str, &str)]) -> Result<(), Fail> {
+pub(crate) fn answers(heap: Global, rows: &[(&str, &str)]) -> Result<(), Fail> {
     let mut bench = Bench::new(heap)?;
     for (line, expected) in rows {
         let told = match bench.take(heap, line.as_bytes())? {

@@ -1,24 +1,22 @@
 -- A tare that is set is its channel's alone.
-use mathlib.Core.Path.{_≡_, refl, sym, ap, subst, _∙_}
-use mathlib.Core.Bool.{_&&_, true}
-use mathlib.Core.List.{List}
-use Prim.Native.Nat.{ℕ, _-_, _≤_}
+use mathlib.Core.Path.{_≡_, refl, sym, ap, _∙_}
+use mathlib.Core.Bool.{_&&_, true, false}
+use Prim.Native.Nat.{_-_, _≤_}
 use borrow.Author.Needs.{needs}
-use native.Mathlib.Omega.{arith}
-use lib.IntN.{ℤ, pos}
+use lib.IntN.{pos}
 use lib.ListN.{length, set}
 use lib.Signed.{leZ}
 use mir.Syntax.{w32}
 use mir.Val.{SFits}
 use Rattle.std.proofs.shelf.Signed.{toZ-ofZ}
-use Rattle.std.proofs.shelf.Tests.{and-from}
+use Rattle.std.proofs.shelf.Tests.{and-from, and-left, and-right}
 use Rattle.std.proofs.shelf.Lists.{length-map, map-set}
 use Rattle.weight.specs.Limit.{in-limit}
 use Rattle.weight.specs.declared.weight.Weight.{Weight}
 use Rattle.reading.specs.Answers.{is-channel}
 use Rattle.reading.specs.OfTare.{grams-each, tared-answer}
 use Rattle.reading.proofs.Layers.{tares-set}
-use Rattle.reading.proofs.Weighed.{not-negative, tells}
+use Rattle.reading.proofs.Weighed.{negative, not-negative, tells, untold}
 use Rattle.reading.proofs.tare.Tare.set.Needs as need
 
 pub returns : need.returns
@@ -37,3 +35,22 @@ returns g c =
       below = refl;
       meaning = λ k. ap (λ ts. tared-answer below ts k) written ∙ tares-set below tares (c .args .channel) k (c .args .grams) there size;
     }
+
+pub returns-then-not-is-channel : need.returns-then-not-is-channel
+returns-then-not-is-channel g c =
+    let absent : is-channel (c .args .channel) ≡ false = sym (c .is-channel .ensures) ∙ c .if-not-is-channel .taken in
+    record { answer = rw absent refl; tares = refl; below = refl; meaning = λ k. refl }
+
+pub returns-then-grams-lt0 : need.returns-then-grams-lt0
+returns-then-grams-lt0 g c =
+    let fits : SFits w32 (c .args .grams) = search needs in
+    let there : is-channel (c .args .channel) ≡ true = sym (c .is-channel .ensures) ∙ c .if-not-is-channel .left in
+    let bad : (leZ (pos 0) (c .args .grams) && in-limit (c .args .grams)) ≡ false = and-left _ _ (negative (c .args .grams) (simp toZ-ofZ at (c .if-grams-lt0 .taken))) in
+    record { answer = rw (there, bad) refl; tares = refl; below = refl; meaning = λ k. refl }
+
+pub returns-in-rest : need.returns-in-rest
+returns-in-rest g c =
+    let fits : SFits w32 (c .args .grams) = search needs in
+    let there : is-channel (c .args .channel) ≡ true = sym (c .is-channel .ensures) ∙ c .if-not-is-channel .left in
+    let bad : (leZ (pos 0) (c .args .grams) && in-limit (c .args .grams)) ≡ false = and-right _ _ (untold (c .args .grams) (simp toZ-ofZ at (c .in-rest .ensures tt))) in
+    record { answer = rw (there, bad) refl; tares = refl; below = refl; meaning = λ k. refl }

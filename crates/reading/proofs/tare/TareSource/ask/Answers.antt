@@ -4,7 +4,6 @@ use borrow.Author.Needs.{needs}
 use lib.IntN.{_-ℤ_}
 use mir.Syntax.{w32}
 use mir.Val.{SFits}
-use Rattle.std.specs.declared.result.Result.the-variants.{Ok}
 use Rattle.std.proofs.shelf.Signed.{toZ-ofZ}
 use Rattle.reading.specs.Answers.{held-to-limit}
 use Rattle.reading.specs.OfTare.{grams-each, tare-at, tared}
