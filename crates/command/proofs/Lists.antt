@@ -50,7 +50,7 @@ pub record Step (all : List (List ℕ)) (ns : List ℕ) (ws : List (List ℕ)) :
   pub read : mapped (λ ms. ns ++ ms) (numbers-in ws) ≡ numbers-in all
   pub some : none all ≡ false
 
-pub step : (all : List (List ℕ)) (ns : List ℕ) (ws : List (List ℕ)) (n : ℕ) → So-far all ns ws → Next ws (Ok n) → Step all (ns ++ n ∷ []) (later ws)
+step : (all : List (List ℕ)) (ns : List ℕ) (ws : List (List ℕ)) (n : ℕ) → So-far all ns ws → Next ws (Ok n) → Step all (ns ++ n ∷ []) (later ws)
 step all ns [] n s e = let z : _≡_ {A = ℕ} 0 1 = cc in absurd (omega arith)
 step all ns (w ∷ ws) n s e =
     let here = was-some (number-in w) (Wrong Total Channel) n e in
@@ -60,14 +60,14 @@ step all ns (w ∷ ws) n s e =
     }
 
 -- The same at the words and the numbers that the program holds then.
-pub more : (all : List (List ℕ)) (ns ms : List ℕ) (ws us : List (List ℕ)) (n : ℕ) →
-    So-far all ns ws → Next ws (Ok n) → ms ≡ ns ++ n ∷ [] → us ≡ later ws → none us ≡ false → So-far all ms us
-more all ns ms ws us n s e pushed rest on =
+pub step-to : (all : List (List ℕ)) (ns ms : List ℕ) (ws us : List (List ℕ)) (n : ℕ) →
+    So-far all ns ws → Next ws (Ok n) → ms ≡ ns ++ n ∷ [] → us ≡ later ws → Step all ms us
+step-to all ns ms ws us n s e pushed rest =
     let here = step all ns ws n s e in
-    record {
-      read = (λ i. mapped (λ ks. pushed i ++ ks) (numbers-in (rest i))) ∙ here .read;
-      same = here .some ∙ sym on;
-    }
+    record { read = (λ i. mapped (λ ks. pushed i ++ ks) (numbers-in (rest i))) ∙ here .read; some = here .some }
+
+pub goes-on : (all : List (List ℕ)) (ns : List ℕ) (ws : List (List ℕ)) → Step all ns ws → none ws ≡ false → So-far all ns ws
+goes-on all ns ws s on = record { read = s .read; same = s .some ∙ sym on }
 
 pub shorter : (ws : List (List ℕ)) (n : ℕ) → Next ws (Ok n) → length (later ws) < length ws
 shorter [] n e = let z : _≡_ {A = ℕ} 0 1 = cc in absurd (omega arith)

@@ -7,10 +7,14 @@ use Prim.Native.Nat.{ℕ, _+_, _-_, _*_, _≤_, _<_}
 use native.Mathlib.Omega.{arith}
 use lib.Dec.{leb}
 use lib.ListN.{length, getD, drop}
+use Rattle.std.specs.Numbers.{Converted}
+use Rattle.std.specs.Results.{okPart}
 use Rattle.std.specs.declared.option.Option.{Option}
 use Rattle.std.specs.declared.option.Option.the-variants.{Some, None}
+use Rattle.std.specs.declared.result.Result.{Result}
+use Rattle.std.specs.declared.result.Result.the-variants.{Ok, Err}
 use Rattle.std.proofs.shelf.Lists.{drop-more, drop-all}
-use Rattle.std.proofs.shelf.Tests.{and-parts, and-cases, and-from, and-left, and-right, lt-leb, le-leb, leb-true, leb-false, cond-true, cond-false}
+use Rattle.std.proofs.shelf.Tests.{and-parts, and-cases, and-from, and-left, and-right, lt-leb, le-leb, leb-true, leb-false, cond-true, cond-false, cases-lt}
 use Rattle.command.specs.Numbers.{digit, all-digits, with-digit, decimal-after, decimal, value-in, below-zero-in, grams-in}
 use Rattle.command.specs.Laws.{Bounded}
 
@@ -78,8 +82,21 @@ pub minus : (w : List ℕ) → 0 < length w → getD w 0 0 ≡ 45 → below-zero
 minus [] l e = absurd (omega arith)
 minus (b ∷ bs) l e = let P : ℕ → Type 0 = λ x. below-zero-in bs ≡ grams-in (x ∷ bs) in subst P (sym e) refl
 
-pub number-bounded : (w : List ℕ) → Bounded w
-number-bounded w n e =
-    let p = some-if (leb 1 (length w) && (all-digits w && leb (decimal w) 4294967295)) n (decimal w) (sym e) in
+pub bounded : (limit : ℕ) (w : List ℕ) (n : ℕ) → Some n ≡ value-in limit w → n ≤ limit
+bounded limit w n e =
+    let p = some-if (leb 1 (length w) && (all-digits w && leb (decimal w) limit)) n (decimal w) e in
     let q = and-parts (all-digits w) _ (and-parts (leb 1 (length w)) _ (p .0) .1) in
-    omega (arith, leb-true (decimal w) 4294967295 (q .1))
+    omega (arith, leb-true (decimal w) limit (q .1))
+
+pub number-bounded : (w : List ℕ) → Bounded w
+number-bounded w n e = let h = bounded 4294967295 w n (sym e) in omega arith
+
+-- A sum that is turned into 32 bits where it fits them.
+pub longer-is : {E : Type 0} (v b n : ℕ) (r : Result ℕ E) → 48 ≤ b → b ≤ 57 → n ≡ with-digit v b → Converted r (n < 4294967296) n → With v b (okPart r)
+longer-is v b n (Ok x) low high e h =
+    ap Some (h .1 ∙ e) ∙
+    sym (cond-true _ (Some (with-digit v b)) None
+    (and-from (digit b) _ (and-from (leb 48 b) _ (le-leb 48 b low) (le-leb b 57 high)) (le-leb (with-digit v b) 4294967295 (omega (arith, h .0)))))
+longer-is v b n (Err d) low high e h =
+    let large : 4294967295 < with-digit v b = elim (cases-lt n 4294967296) [ inl s ↦ absurd (h s) | inr s ↦ omega arith ] in
+    sym (cond-false _ (Some (with-digit v b)) None (and-right (digit b) _ (lt-leb (with-digit v b) 4294967295 large)))

@@ -24,7 +24,6 @@ pub use types::Pile;
 pub use types::Verb;
 pub use types::Wanted;
 use words::Words;
-pub use worked::examples_stand;
 
 // The line has no line feed. The only error is want of memory for a list of channels.
 pub fn parse(heap: Global, line: &[u8]) -> Result<Line, AllocError>

@@ -30,4 +30,3 @@ pub use step::Step;
 pub use step::StepSource;
 pub use tare::Tare;
 pub use tare::TareSource;
-pub use worked::examples_stand;

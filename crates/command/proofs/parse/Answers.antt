@@ -24,7 +24,7 @@ index-name-0 c =
 said : (c : After-command-of) → answered (arguments (c .in-Some .verb) (left (c .next-name .last .self))) ≡ understood (c .args .line .now)
 said c =
     let next = c .next-name .ensures in
-    named _ _ (c .next-name .result .now) (c .in-Some .verb) (sym (c .if-is-done .ensures tt)) (next .word) (next .rest) (c .if-name-eq35 .left) (c .in-Some .ensures tt) ∙
+    named _ _ (c .next-name .result .now) (c .in-Some .verb) (sym (c .if-is-done .ensures tt)) (next .word) (next .rest) (λ e. omega arith) (c .in-Some .ensures tt) ∙
     ap by-words (c .of-rest .ensures .words)
 
 pub returns-in-Ok : need.returns-in-Ok

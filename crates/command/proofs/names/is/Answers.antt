@@ -1,6 +1,6 @@
-use borrow.Author.Needs.{needs}
 use Rattle.std.proofs.shelf.Equals.{matches-decides, sameBytes-decides}
+use Rattle.command.proofs.Tables.{same-test}
 use Rattle.command.proofs.names.is.Needs as need
 
 pub returns : need.returns
-returns c = let d = matches-decides _ _ _ (c .eq .ensures) in search (needs, sameBytes-decides)
+returns c = same-test _ _ (matches-decides _ _ _ (c .eq .ensures)) (sameBytes-decides (c .args .word .now) (c .args .name .now))
