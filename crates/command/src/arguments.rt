@@ -18,7 +18,7 @@ use crate::types::Verb;
 use crate::types::Wanted;
 use crate::words::Words;
 
-pub fn next_number(line: &mut Words, verb: Verb, wanted: Wanted) -> Result<u32, Misreading>
+pub(crate) fn next_number(line: &mut Words, verb: Verb, wanted: Wanted) -> Result<u32, Misreading>
     ensures value { λ r. ⌜ r ≡ argument verb wanted number-in (left (now (line .entry))) ⌝ }
     ensures rest { λ r. ⌜ left (now (line .exit)) ≡ later (left (now (line .entry))) ⌝ }
 {
@@ -28,7 +28,7 @@ pub fn next_number(line: &mut Words, verb: Verb, wanted: Wanted) -> Result<u32, 
     number(line.next()).ok_or(Misreading::Wrong(verb, wanted))
 }
 
-pub fn next_grams(line: &mut Words, verb: Verb) -> Result<i32, Misreading>
+pub(crate) fn next_grams(line: &mut Words, verb: Verb) -> Result<i32, Misreading>
     ensures value { λ r. ⌜ r ≡ argument verb the.Grams grams-in (left (now (line .entry))) ⌝ }
     ensures rest { λ r. ⌜ left (now (line .exit)) ≡ later (left (now (line .entry))) ⌝ }
 {
@@ -38,7 +38,7 @@ pub fn next_grams(line: &mut Words, verb: Verb) -> Result<i32, Misreading>
     grams(line.next()).ok_or(Misreading::Wrong(verb, Wanted::Grams))
 }
 
-pub fn next_mark(line: &mut Words, verb: Verb) -> Result<bool, Misreading>
+pub(crate) fn next_mark(line: &mut Words, verb: Verb) -> Result<bool, Misreading>
     ensures value { λ r. ⌜ r ≡ argument verb the.Mark mark-in (left (now (line .entry))) ⌝ }
     ensures rest { λ r. ⌜ left (now (line .exit)) ≡ later (left (now (line .entry))) ⌝ }
 {
@@ -48,7 +48,7 @@ pub fn next_mark(line: &mut Words, verb: Verb) -> Result<bool, Misreading>
     mark(line.next()).ok_or(Misreading::Wrong(verb, Wanted::Mark))
 }
 
-pub fn next_pile(line: &mut Words, verb: Verb) -> Result<Pile, Misreading>
+pub(crate) fn next_pile(line: &mut Words, verb: Verb) -> Result<Pile, Misreading>
     ensures value { λ r. ⌜ r ≡ argument verb the.Pile pile-in (left (now (line .entry))) ⌝ }
     ensures rest { λ r. ⌜ left (now (line .exit)) ≡ later (left (now (line .entry))) ⌝ }
 {
@@ -58,7 +58,7 @@ pub fn next_pile(line: &mut Words, verb: Verb) -> Result<Pile, Misreading>
     pile(line.next()).ok_or(Misreading::Wrong(verb, Wanted::Pile))
 }
 
-pub fn next_counting(line: &mut Words, verb: Verb) -> Result<Counting, Misreading>
+pub(crate) fn next_counting(line: &mut Words, verb: Verb) -> Result<Counting, Misreading>
     ensures value { λ r. ⌜ r ≡ argument verb the.Arithmetic counting-in (left (now (line .entry))) ⌝ }
     ensures rest { λ r. ⌜ left (now (line .exit)) ≡ later (left (now (line .entry))) ⌝ }
 {
@@ -69,7 +69,7 @@ pub fn next_counting(line: &mut Words, verb: Verb) -> Result<Counting, Misreadin
 }
 
 // That no word is left.
-pub fn end(line: &Words, verb: Verb) -> Result<(), Misreading>
+pub(crate) fn end(line: &Words, verb: Verb) -> Result<(), Misreading>
     ensures { λ r. ⌜ r ≡ ended verb (left (now (line .entry))) ⌝ }
 {
     if line.is_done() {

@@ -140,7 +140,7 @@ fn total(heap: Global, line: &mut Words) -> Result<Result<Command, Misreading>, 
     }
 }
 
-pub fn command_of(
+pub(crate) fn command_of(
     heap: Global,
     verb: Verb,
     line: &mut Words,

@@ -13,7 +13,7 @@ fn is(word: &[u8], name: &[u8]) -> bool
     word == name
 }
 
-pub fn verb(word: &[u8]) -> Option<Verb>
+pub(crate) fn verb(word: &[u8]) -> Option<Verb>
     ensures { λ r. ⌜ r ≡ verb-of (now (word .entry)) ⌝ }
 {
     if is(word, b"station") {
@@ -42,7 +42,7 @@ pub fn verb(word: &[u8]) -> Option<Verb>
 }
 
 // Whether the scale is at rest.
-pub fn mark(word: &[u8]) -> Option<bool>
+pub(crate) fn mark(word: &[u8]) -> Option<bool>
     ensures { λ r. ⌜ r ≡ mark-in (now (word .entry)) ⌝ }
 {
     if is(word, b"rest") {
@@ -54,7 +54,7 @@ pub fn mark(word: &[u8]) -> Option<bool>
     }
 }
 
-pub fn pile(word: &[u8]) -> Option<Pile>
+pub(crate) fn pile(word: &[u8]) -> Option<Pile>
     ensures { λ r. ⌜ r ≡ pile-in (now (word .entry)) ⌝ }
 {
     if is(word, b"board") {
@@ -72,7 +72,7 @@ pub fn pile(word: &[u8]) -> Option<Pile>
     }
 }
 
-pub fn counting(word: &[u8]) -> Option<Counting>
+pub(crate) fn counting(word: &[u8]) -> Option<Counting>
     ensures { λ r. ⌜ r ≡ counting-in (now (word .entry)) ⌝ }
 {
     if is(word, b"gram") {

@@ -32,7 +32,7 @@ fn value(digits: &[u8], limit: u32) -> Option<u32>
     if value <= limit { Some(value) } else { None }
 }
 
-pub fn number(word: &[u8]) -> Option<u32>
+pub(crate) fn number(word: &[u8]) -> Option<u32>
     ensures value { λ r. ⌜ r ≡ number-in (now (word .entry)) ⌝ }
     ensures bound { λ _. ⌜ Bounded (now (word .entry)) ⌝ }
 {
@@ -54,7 +54,7 @@ fn from_zero(digits: &[u8]) -> Option<i32>
     Some(size as i32)
 }
 
-pub fn grams(word: &[u8]) -> Option<i32>
+pub(crate) fn grams(word: &[u8]) -> Option<i32>
     ensures { λ r. ⌜ r ≡ grams-in (now (word .entry)) ⌝ }
 {
     match word {

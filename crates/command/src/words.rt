@@ -10,7 +10,7 @@ ghost use Rattle.command.specs.Laws.{Cut-into-words};
 
 // What is left of a line.
 #[derive(Drop)]
-pub struct Words<'a> {
+pub(crate) struct Words<'a> {
     pub rest: &'a [u8],
 }
 
@@ -47,7 +47,7 @@ fn word_len(text: &[u8]) -> usize
 }
 
 impl<'a> Words<'a> {
-    pub fn of(line: &'a [u8]) -> Self
+    pub(crate) fn of(line: &'a [u8]) -> Self
         ensures words { λ r. ⌜ left r ≡ words (now (line .entry)) ⌝ }
         ensures cut { λ _. ⌜ Cut-into-words (now (line .entry)) ⌝ }
     {
@@ -55,14 +55,14 @@ impl<'a> Words<'a> {
     }
 
     // Whether no word is left.
-    pub fn is_done(&self) -> bool
+    pub(crate) fn is_done(&self) -> bool
         ensures { λ r. ⌜ r ≡ none (left (now (self .entry))) ⌝ }
     {
         blanks(self.rest) == self.rest.len()
     }
 
     // The next word; with no byte where there is none.
-    pub fn next(&mut self) -> &'a [u8]
+    pub(crate) fn next(&mut self) -> &'a [u8]
         ensures word { λ r. ⌜ now r ≡ first (left (now (self .entry))) ⌝ }
         ensures rest { λ r. ⌜ left (now (self .exit)) ≡ later (left (now (self .entry))) ⌝ }
     {

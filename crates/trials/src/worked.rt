@@ -3,5 +3,4 @@ ghost use Rattle.trials.specs.Worked.{Worked};
 
 pub(crate) fn examples_stand()
     ensures { λ _. ⌜ Worked ⌝ }
-{
-}
+{}
