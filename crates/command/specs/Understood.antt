@@ -22,7 +22,7 @@ use Rattle.command.specs.declared.types.Command.{Command}
 use Rattle.command.specs.declared.types.Command.the-variants as the
 use Rattle.command.specs.declared.types.Line.{Line}
 use Rattle.command.specs.declared.types.Line.the-variants as line
-use Rattle.command.specs.Words.{words, later, none}
+use Rattle.command.specs.Words.{words, first, later, none}
 use Rattle.command.specs.Numbers.{number-in, grams-in}
 use Rattle.command.specs.Names.{verb-of, mark-in, pile-in, counting-in}
 
@@ -88,6 +88,27 @@ numbers-in (w ∷ ws) = put-before (number-in w) (numbers-in ws)
 abbrev pub channels : List (List ℕ) → Result (List ℕ) Misreading
 channels [] = Err (Missing verb.Total wanted.Channel)
 channels (w ∷ ws) = okOr (numbers-in (w ∷ ws)) (Wrong verb.Total wanted.Channel)
+
+-- Which commands want memory to be read: a list of channels does.
+abbrev pub lists : Verb → Bool
+lists verb.Station = false
+lists verb.Records = false
+lists verb.Put = false
+lists verb.Raw = false
+lists verb.Tare = false
+lists verb.Interval = false
+lists verb.Pile = false
+lists verb.Weigh = false
+lists verb.Total = true
+lists verb.Arithmetic = false
+
+abbrev pub lists-of : Option Verb → Bool
+lists-of None = false
+lists-of (Some v) = lists v
+
+-- whether a line may want memory: its first word is total
+abbrev pub line-lists : List ℕ → Bool
+line-lists bs = lists-of (verb-of (first (words bs)))
 
 -- What a command asks, by the words after its name.
 abbrev pub arguments : Verb → List (List ℕ) → Result Asked Misreading

@@ -1,11 +1,12 @@
 // The arguments of each command.
 ghost use mathlib.Core.Path.{_≡_};
 ghost use mathlib.Core.List.{List};
-ghost use Rattle.std.specs.Vec.{made};
+ghost use Rattle.std.specs.Vec.{made, refused};
+ghost use mathlib.Core.Bool.{true};
 ghost use Rattle.command.specs.Words.{later};
 ghost use Rattle.command.specs.Left.{left};
 ghost use Rattle.command.specs.Numbers.{number-in};
-ghost use Rattle.command.specs.Understood.{sole, load, marked-load, arguments, outcome};
+ghost use Rattle.command.specs.Understood.{sole, load, marked-load, arguments, lists, outcome};
 ghost use Rattle.command.specs.declared.types.Verb.the-variants as the;
 use crate::arguments::end;
 use crate::arguments::next_counting;
@@ -145,7 +146,8 @@ pub(crate) fn command_of(
     verb: Verb,
     line: &mut Words,
 ) -> Result<Result<Command, Misreading>, AllocError>
-    ensures { λ r. ⌜ made r (λ o. outcome o ≡ arguments verb (left (now (line .entry)))) ⌝ }
+    ensures meaning { λ r. ⌜ made r (λ o. outcome o ≡ arguments verb (left (now (line .entry)))) ⌝ }
+    ensures memory { λ r. ⌜ refused r (λ _. lists verb ≡ true) ⌝ }
 {
     match verb {
         Verb::Station => Ok(station(line)),

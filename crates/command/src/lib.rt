@@ -1,7 +1,8 @@
 // Reads one line of a session: a command with its arguments, or why the line is not understood.
 ghost use mathlib.Core.Path.{_≡_};
-ghost use Rattle.std.specs.Vec.{made};
-ghost use Rattle.command.specs.Understood.{meant, understood};
+ghost use Rattle.std.specs.Vec.{made, refused};
+ghost use mathlib.Core.Bool.{true};
+ghost use Rattle.command.specs.Understood.{line-lists, meant, understood};
 ghost use Rattle.command.specs.Laws.{Cut-into-words};
 
 mod arguments;
@@ -25,9 +26,10 @@ pub use types::Verb;
 pub use types::Wanted;
 use words::Words;
 
-// The line has no line feed. The only error is want of memory for a list of channels.
+// Any bytes are a line. The only error is want of memory for the list of channels of a total.
 pub fn parse(heap: Global, line: &[u8]) -> Result<Line, AllocError>
     ensures meaning { λ r. ⌜ made r (λ l. meant l ≡ understood (now (line .entry))) ⌝ }
+    ensures memory { λ r. ⌜ refused r (λ _. line-lists (now (line .entry)) ≡ true) ⌝ }
     ensures cut { λ _. ⌜ Cut-into-words (now (line .entry)) ⌝ }
 {
     let mut rest = Words::of(line);

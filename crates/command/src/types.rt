@@ -1,6 +1,6 @@
 // What a line of a session can say: the commands with their arguments, and why a line is not understood.
 
-// What stands on the scale as the channel is read.
+// Which layers stand over the board as a channel is read.
 #[derive(Clone, Copy)]
 pub enum Pile {
     Board,

@@ -17,8 +17,8 @@ pub struct Old {
     pub grams: i32,
 }
 
-// Beside the rule, each operation promises that its answer is the one number in range that is congruent to the
-// exact result modulo 2^32.
+// Beside the rule, each operation promises that its answer is the one number in range that is congruent modulo 2^32
+// to the exact sum, difference or product, or to the quotient with its fraction dropped.
 pub impl Arithmetic for Old as OldArithmetic {
     ghost rules = { old-rules };
 

@@ -11,7 +11,8 @@ use lib.IntN.{ℤ, pos, negsuc, natAbs, negℤ, _-ℤ_}
 use lib.ListN.{getD, length, replicate, set}
 use Rattle.std.specs.declared.result.Result.the-variants.{Ok, Err}
 use Rattle.std.proofs.shelf.Lists.{getD-set-other, getD-set-same, length-set}
-use Rattle.std.proofs.shelf.Tests.{and-parts, both-ways, cases-bool, cases-eq, cond-false, cond-true, eq-eqb, leb-true, ne-eqb}
+use Rattle.std.proofs.shelf.Signed.{ints}
+use Rattle.std.proofs.shelf.Tests.{and-parts, both-ways, cases-bool, cases-eq, cond-false, cond-true, eq-eqb, le-leb, leb-true, ne-eqb}
 use Rattle.weight.specs.Limit.{in-limit, limit}
 use Rattle.reading.specs.Answers.{Lawful, Reading, held-to-limit, is-channel}
 use Rattle.reading.specs.Drops.{dropped}
@@ -70,6 +71,14 @@ get-zero (suc n) (suc i) = get-zero n i
 
 pub no-tare : (k : ℕ) → tare-at (replicate 64 (pos 0)) k ≡ pos 0
 no-tare k = elim (cases-bool (is-channel k)) [ inl t ↦ cond-true _ _ _ t ∙ get-zero 64 (k - 1) | inr f ↦ cond-false _ _ _ f ]
+
+less-nothing : (z : ℤ) → z -ℤ pos 0 ≡ z
+less-nothing z = omega (arith, ints)
+
+-- a tare of 0 leaves a reading as it is, since its weight is within the limit
+pub untared : (r : Reading) → ((z : ℤ) → r ≡ Ok z → natAbs z ≤ limit) → tared (pos 0) r ≡ r
+untared (Ok z) h = rw less-nothing (cond-true _ _ _ (le-leb _ _ (h z refl)))
+untared (Err e) h = refl
 
 pub map-replicate : {X Y : Type 0} (f : X → Y) (n : ℕ) (x : X) → map f (replicate n x) ≡ replicate n (f x)
 map-replicate f zero x = refl

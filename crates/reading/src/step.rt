@@ -13,7 +13,7 @@ ghost use Rattle.reading.specs.Settings.{after};
 #[derive(Drop)]
 pub struct Step<S> {
     pub below: S,
-    pub interval: Interval,
+    interval: Interval,
 }
 
 impl<S: ReadingSource> Step<S> {
@@ -26,6 +26,17 @@ impl<S: ReadingSource> Step<S> {
         Step {
             below,
             interval: Interval::one(),
+        }
+    }
+
+    // The same interval over another source.
+    pub fn same_over<T: ReadingSource>(&self, below: T) -> Step<T>
+        ensures below { λ r. ⌜ r .below ≡ below ⌝ }
+        ensures interval { λ r. ⌜ r .interval ≡ now (self .entry) .interval ⌝ }
+    {
+        Step {
+            below,
+            interval: self.interval,
         }
     }
 

@@ -10,13 +10,14 @@ ghost use Prim.Native.Nat.{ℕ, _-_};
 ghost use lib.IntN.{pos};
 ghost use lib.ListN.{replicate, set};
 ghost use Rattle.reading.specs.OfTare.{grams-each, tare-answers, tare-at, tare-setting, tared};
+ghost use Rattle.reading.specs.Answers.{Lawful};
 ghost use Rattle.reading.specs.Settings.{Changes, after};
 
 // The tare of channel k stands at index k - 1.
 #[derive(Drop)]
 pub struct Tare<S> {
     pub below: S,
-    pub tares: [Weight; 64],
+    tares: [Weight; 64],
 }
 
 fn no_tares() -> [Weight; 64]
@@ -37,15 +38,26 @@ fn tare_of(tares: &[Weight; 64], channel: u32) -> Weight
 }
 
 impl<S: ReadingSource> Tare<S> {
-    // No tare is set at first.
+    // No tare is set at first, so every source that keeps the rules of sources answers as before.
     pub fn over(below: S) -> Tare<S>
         ensures below { λ r. ⌜ r .below ≡ below ⌝ }
         ensures tares { λ r. ⌜ grams-each (r .tares) ≡ replicate 64 (pos 0) ⌝ }
-        ensures meaning { λ r. ⌜ ((k : ℕ) → tare-answers (S·ReadingSource .answers) r k ≡ tared (pos 0) (S·ReadingSource .answers below k)) ⌝ }
+        ensures meaning { λ r. ⌜ (Lawful (S·ReadingSource .answers below) → (k : ℕ) → tare-answers (S·ReadingSource .answers) r k ≡ S·ReadingSource .answers below k) ⌝ }
     {
         Tare {
             below,
             tares: no_tares(),
+        }
+    }
+
+    // The same tares over another source.
+    pub fn same_over<T: ReadingSource>(&self, below: T) -> Tare<T>
+        ensures below { λ r. ⌜ r .below ≡ below ⌝ }
+        ensures tares { λ r. ⌜ r .tares ≡ now (self .entry) .tares ⌝ }
+    {
+        Tare {
+            below,
+            tares: self.tares,
         }
     }
 

@@ -1,6 +1,6 @@
 -- The state of a bench, and what each command answers and makes of it.
 use mathlib.Core.Path.{_≡_}
-use mathlib.Core.Bool.{Bool, true, false, cond, _||_}
+use mathlib.Core.Bool.{Bool, true, false, cond, not, _||_, _&&_}
 use mathlib.Core.List.{List, [], _∷_, _++_}
 use Prim.Native.Nat.{ℕ, _-_}
 use lib.Dec.{eqb, ltb, leb}
@@ -12,7 +12,8 @@ use Rattle.std.specs.declared.option.Option.{Option}
 use Rattle.std.specs.declared.option.Option.the-variants.{Some, None}
 use Rattle.std.specs.declared.result.Result.{Result}
 use Rattle.std.specs.declared.result.Result.the-variants.{Ok, Err}
-use Rattle.command.specs.Understood.{Meant, passed, command, not-understood, Asked, station, records, put, raw, tare, interval, pile, weigh, total, arithmetic}
+use mathlib.Core.Logic.{_⊎_}
+use Rattle.command.specs.Understood.{Meant, line-lists, understood, passed, command, not-understood, Asked, station, records, put, raw, tare, interval, pile, weigh, total, arithmetic}
 use Rattle.command.specs.declared.types.Counting.{Counting}
 use Rattle.command.specs.declared.types.Counting.the-variants as counting
 use Rattle.command.specs.declared.types.Pile.{Pile}
@@ -155,10 +156,23 @@ obeyed-after (arithmetic c) s = with-counting s c
 abbrev pub Does : Asked → State → Answer → State → Type 0
 Does c s a t = (a ≡ obeyed c s) × (t ≡ obeyed-after c s)
 
--- the same, but that memory may run out, and then nothing has changed
+-- what may want memory: a station that is new and has room, a board that is made
+abbrev pub wants-memory : Asked → State → Bool
+wants-memory (station n) s = not (known n (s .stations)) && ltb (length (s .stations)) 64
+wants-memory (records n) s = leb n 10000
+wants-memory (put k grams resting) s = false
+wants-memory (raw k grams resting) s = false
+wants-memory (tare k grams) s = false
+wants-memory (interval d) s = false
+wants-memory (pile p) s = false
+wants-memory (weigh k) s = false
+wants-memory (total ks) s = false
+wants-memory (arithmetic c) s = false
+
+-- the same, but that memory may run out where the command wants some, and then nothing has changed
 abbrev pub Obeys : Asked → State → Result Answer AllocError → State → Type 0
 Obeys c s (Ok a) t = Does c s a t
-Obeys c s (Err e) t = t ≡ s
+Obeys c s (Err e) t = (wants-memory c s ≡ true) × (t ≡ s)
 
 -- a line of that meaning was answered a, and left the state t: a line that is passed over gets no answer, and one
 -- that is not understood changes nothing
@@ -167,6 +181,13 @@ Took passed s a t = (a ≡ None) × (t ≡ s)
 Took (command c) s a t = (a ≡ Some (obeyed c s)) × (t ≡ obeyed-after c s)
 Took (not-understood m) s a t = (a ≡ Some (the.NotUnderstood m)) × (t ≡ s)
 
-abbrev pub Takes : Meant → State → Result (Option Answer) AllocError → State → Type 0
-Takes m s (Ok a) t = Took m s a t
-Takes m s (Err e) t = t ≡ s
+-- whether to obey a line of that meaning may want memory
+abbrev pub meant-wants : Meant → State → Bool
+meant-wants passed s = false
+meant-wants (command c) s = wants-memory c s
+meant-wants (not-understood m) s = false
+
+-- memory may run out where a list of channels is read, or where the command wants some, and then nothing has changed
+abbrev pub Takes : List ℕ → State → Result (Option Answer) AllocError → State → Type 0
+Takes bs s (Ok a) t = Took (understood bs) s a t
+Takes bs s (Err e) t = (t ≡ s) × ((line-lists bs ≡ true) ⊎ (meant-wants (understood bs) s ≡ true))

@@ -24,7 +24,7 @@ ghost use lib.ListN.{replicate};
 ghost use Rattle.std.specs.Vec.{made};
 ghost use Rattle.std.specs.Of.Vec.{vec-items};
 ghost use Rattle.command.specs.Understood as asked;
-ghost use Rattle.command.specs.Understood.{asked as meant-by, understood};
+ghost use Rattle.command.specs.Understood.{asked as meant-by};
 ghost use Rattle.session.specs.Obeyed.{Does, Obeys, Takes, at-first, empty-record, known, obeyed, set-answer, state-of};
 
 const MOST_RECORDS: u32 = 10_000;
@@ -200,7 +200,7 @@ impl Bench {
 
     // One line of a session: None where it is passed over. A line that is not understood changes nothing.
     pub fn take(&mut self, heap: Global, line: &[u8]) -> Result<Option<Answer>, AllocError>
-        ensures { λ r. ⌜ Takes (understood (now (line .entry))) (state-of (now (self .entry))) r (state-of (now (self .exit))) ⌝ }
+        ensures { λ r. ⌜ Takes (now (line .entry)) (state-of (now (self .entry))) r (state-of (now (self .exit))) ⌝ }
     {
         match parse(heap, line)? {
             Line::Passed => Ok(None),

@@ -27,19 +27,13 @@ pub impl ReadingSource for Hoppers as HoppersSource {
 
     fn ask(&self, channel: u32) -> Result<Weight, ReadingFault> {
         let board = &self.layers.below.below;
-        let stepped = Step {
-            below: board,
-            interval: self.layers.interval,
-        };
+        let stepped = self.layers.same_over(board);
         match self.pile {
             Pile::Board => board.ask(channel),
             Pile::Tare => self.layers.below.ask(channel),
             Pile::Step => stepped.ask(channel),
             Pile::StepTare => self.layers.ask(channel),
-            Pile::TareStep => Tare {
-                below: stepped,
-                tares: self.layers.below.tares,
-            }.ask(channel),
+            Pile::TareStep => self.layers.below.same_over(stepped).ask(channel),
         }
     }
 }

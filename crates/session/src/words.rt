@@ -12,7 +12,8 @@ use weighing::WeighingFault;
 fn refusal_words(refusal: SettingRefusal) -> &'static str {
     match refusal {
         SettingRefusal::NoChannel => "the channel is not there",
-        SettingRefusal::BadWeight => "the weight is beyond 268435455 g, or the tare negative",
+        SettingRefusal::BadWeight =>
+            "a weight is at most 268435455 g either way, and a tare not negative",
         SettingRefusal::BadInterval =>
             "an interval is 1, 2 or 5 times a power of ten, at most 50000 g",
     }
@@ -35,7 +36,7 @@ fn form(verb: Verb) -> &'static str {
         Verb::Put => "put CHANNEL GRAMS rest, or moving",
         Verb::Raw => "raw CHANNEL GRAMS rest, or moving",
         Verb::Tare => "tare CHANNEL GRAMS",
-        Verb::Interval => "interval GRAMS",
+        Verb::Interval => "interval D",
         Verb::Pile => "pile board, tare, step, step-tare or tare-step",
         Verb::Weigh => "weigh CHANNEL",
         Verb::Total => "total CHANNEL CHANNEL ..",
@@ -58,7 +59,8 @@ fn argument(wanted: Wanted) -> &'static str {
 
 fn kind(wanted: Wanted) -> &'static str {
     match wanted {
-        Wanted::StationNumber | Wanted::Count | Wanted::Channel | Wanted::Interval =>
+        Wanted::Channel => "a whole number; channels are 1 to 64",
+        Wanted::StationNumber | Wanted::Count | Wanted::Interval =>
             "a whole number, at most 4294967295",
         Wanted::Grams => "whole grams from -2147483648 to 2147483647",
         Wanted::Mark => "rest or moving",

@@ -199,7 +199,7 @@ const OLD: [Row<i32>; 9] = [
     },
 ];
 
-const FINE: [Row<f64>; 12] = [
+const FINE: [Row<f64>; 15] = [
     Row {
         left: 7.0,
         right: 2.0,
@@ -296,6 +296,30 @@ const FINE: [Row<f64>; 12] = [
         times: Ok(0),
         over: Ok(-999),
     },
+    Row {
+        left: f64::NEG_INFINITY,
+        right: 5.0,
+        plus: Ok(5),
+        minus: Ok(-5),
+        times: Ok(0),
+        over: Ok(0),
+    },
+    Row {
+        left: -2147483648.0,
+        right: 5.0,
+        plus: Ok(5),
+        minus: Ok(-5),
+        times: Ok(0),
+        over: Ok(0),
+    },
+    Row {
+        left: -2147483647.0,
+        right: -0.0,
+        plus: Ok(-MAX),
+        minus: Ok(-MAX),
+        times: Ok(0),
+        over: Err(32),
+    },
 ];
 
 fn told<V: Arithmetic>(answer: Result<V, ArithmeticFault>) -> Result<i32, u8> {
@@ -357,6 +381,16 @@ fn fine_rounds_once() -> Result<(), Fail> {
             .grams
             == 2147483647.0,
     )
+}
+
+// The sign of a zero, which no comparison tells: 1 divided by it does.
+#[test]
+fn fine_keeps_the_sign_of_zero() -> Result<(), Fail> {
+    let minus = Fine { grams: -0.0 };
+    check(1.0 / minus.plus(minus)?.grams < 0.0)?;
+    check(1.0 / minus.minus(minus)?.grams > 0.0)?;
+    check(1.0 / minus.times(Fine { grams: 5.0 })?.grams < 0.0)?;
+    check(1.0 / Fine { grams: f64::NAN }.plus(minus)?.grams > 0.0)
 }
 
 #[test]

@@ -69,7 +69,7 @@ fn commands(rt: LibcRuntime) -> Result<(), Fail> {
 #[test]
 fn not_understood(rt: LibcRuntime) -> Result<(), Fail> {
     let number =
-        "not understood: the channel is to be a whole number, at most 4294967295; write weigh CHANNEL";
+        "not understood: the channel is to be a whole number; channels are 1 to 64; write weigh CHANNEL";
     let grams =
         "not understood: the weight is to be whole grams from -2147483648 to 2147483647; write tare CHANNEL GRAMS";
     let unknown = "not understood: no such command; --help lists the commands";
@@ -107,7 +107,7 @@ fn not_understood(rt: LibcRuntime) -> Result<(), Fail> {
         ),
         (
             "total 1 2 x",
-            "not understood: the channel is to be a whole number, at most 4294967295; write total CHANNEL CHANNEL ..",
+            "not understood: the channel is to be a whole number; channels are 1 to 64; write total CHANNEL CHANNEL ..",
         ),
         (
             "records 10001",

@@ -4,7 +4,8 @@ use std::test::*;
 
 const NO_CHANNEL: &str = "refused 61 the channel is not there";
 
-const BAD_WEIGHT: &str = "refused 62 the weight is beyond 268435455 g, or the tare negative";
+const BAD_WEIGHT: &str =
+    "refused 62 a weight is at most 268435455 g either way, and a tare not negative";
 
 const BAD_INTERVAL: &str =
     "refused 63 an interval is 1, 2 or 5 times a power of ten, at most 50000 g";

@@ -30,13 +30,15 @@ said c =
 pub returns-in-Ok : need.returns-in-Ok
 returns-in-Ok c =
     record {
-      meaning = ap (λ o. answered (outcome o)) (sym (c .in-Ok .is)) ∙ (ap answered (c .in-Continue-command .ensures tt) ∙ said (need.at·returns-in-Ok c .After-command-of));
+      meaning = ap (λ o. answered (outcome o)) (sym (c .in-Ok .is)) ∙ (ap answered (c .in-Continue-command .ensures tt .meaning) ∙ said (need.at·returns-in-Ok c .After-command-of));
+      memory = tt;
       cut = c .of-rest .ensures .cut;
     }
 
 pub returns-in-Err : need.returns-in-Err
 returns-in-Err c =
     record {
-      meaning = ap (λ o. answered (outcome o)) (sym (c .in-Err .is)) ∙ (ap answered (c .in-Continue-command .ensures tt) ∙ said (need.at·returns-in-Err c .After-command-of));
+      meaning = ap (λ o. answered (outcome o)) (sym (c .in-Err .is)) ∙ (ap answered (c .in-Continue-command .ensures tt .meaning) ∙ said (need.at·returns-in-Err c .After-command-of));
+      memory = tt;
       cut = c .of-rest .ensures .cut;
     }
