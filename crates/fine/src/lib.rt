@@ -9,7 +9,7 @@ ghost use Rattle.fine.specs.OfFine.{naught, is-value, above-zero, counted, ans
 
 // A place of 64 bits, with no bound in its type: each rule tests the bound itself. What is no value (a NaN, an
 // infinity, a larger magnitude) counts as 0.
-#[derive(Clone, Copy, Debug)]
+#[derive(Clone, Copy)]
 pub struct Fine {
     pub grams: f64,
 }

@@ -6,7 +6,7 @@ ghost use mathlib.Core.Path.{_≡_};
 ghost use Rattle.gram.specs.OfGram.{counted, checked, divided, gram-rules};
 
 // A place of 32 bits. The one number that is no value, -2,147,483,648, counts as 0.
-#[derive(Clone, Copy, PartialEq, Eq, Debug)]
+#[derive(Clone, Copy)]
 pub struct Gram {
     pub grams: i32,
 }

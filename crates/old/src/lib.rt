@@ -12,7 +12,7 @@ ghost use Rattle.old.specs.OfOld.{old-rules};
 ghost use Rattle.old.specs.Modulo.{Wraps};
 
 // A place of 32 bits; every number in it is a value.
-#[derive(Clone, Copy, PartialEq, Eq, Debug)]
+#[derive(Clone, Copy)]
 pub struct Old {
     pub grams: i32,
 }

@@ -14,7 +14,7 @@ ghost use Rattle.reading.specs.OfBoard.{answers-of, has-record, leave-answer, 
 ghost use Rattle.reading.specs.Settings.{Changes, after};
 
 // What the bus last wrote for one channel.
-#[derive(Clone, Copy, PartialEq, Eq, Debug)]
+#[derive(Clone, Copy)]
 pub struct Record {
     pub grams: i32,
     pub resting: bool,

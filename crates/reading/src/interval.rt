@@ -6,7 +6,7 @@ ghost use Rattle.reading.specs.Intervals.{Rule, interval-setting, lawful-inter
 use crate::refusal::SettingRefusal;
 
 // 1, 2 or 5 times a power of ten, and at most 50,000 grams.
-#[derive(Clone, Copy, PartialEq, Eq, Debug)]
+#[derive(Clone, Copy)]
 pub struct Interval {
     grams: u32,
     ghost lawful: { lawful-interval grams ≡ true },

@@ -1,15 +1,11 @@
 // What ends an addition of weights: a fault of a reading, or of the arithmetic.
 use arithmetic::ArithmeticFault;
-use arithmetic::ArithmeticFaultDebug;
-use arithmetic::ArithmeticFaultPartialEq;
 use reading::ReadingFault;
-use reading::ReadingFaultDebug;
-use reading::ReadingFaultPartialEq;
 ghost use mathlib.Core.Path.{_≡_};
 ghost use Rattle.weighing.specs.Faults.{weighing-number};
 ghost use Rattle.weighing.specs.declared.fault.WeighingFault.the-variants.{OfReading, OfArithmetic};
 
-#[derive(Clone, Copy, PartialEq, Debug)]
+#[derive(Clone, Copy)]
 pub enum WeighingFault {
     OfReading(ReadingFault),
     OfArithmetic(ArithmeticFault),
@@ -44,7 +40,7 @@ impl WeighingFault {
 }
 
 // The fault, with the channel at which it came.
-#[derive(Clone, Copy, PartialEq, Debug)]
+#[derive(Clone, Copy)]
 pub struct TotalFault {
     pub channel: u32,
     pub fault: WeighingFault,

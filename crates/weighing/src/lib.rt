@@ -3,11 +3,7 @@ mod fault;
 mod totals;
 
 pub use fault::TotalFault;
-pub use fault::TotalFaultDebug;
-pub use fault::TotalFaultPartialEq;
 pub use fault::WeighingFault;
-pub use fault::WeighingFaultDebug;
 pub use fault::WeighingFaultFromArithmetic;
 pub use fault::WeighingFaultFromReading;
-pub use fault::WeighingFaultPartialEq;
 pub use totals::total;

@@ -2,5 +2,3 @@
 mod weight;
 
 pub use weight::Weight;
-pub use weight::WeightDebug;
-pub use weight::WeightPartialEq;

@@ -7,7 +7,7 @@ ghost use Rattle.std.specs.Options.{mapped};
 ghost use Rattle.weight.specs.Limit.{limit, weighed};
 
 // Whole grams from -268,435,455 to 268,435,455.
-#[derive(Clone, Copy, PartialEq, Eq, Debug)]
+#[derive(Clone, Copy)]
 pub struct Weight {
     grams: i32,
     ghost within: { natAbs grams ≤ limit },
