@@ -44,7 +44,8 @@ impl<S: ReadingSource> Step<S> {
         ensures answer { λ r. ⌜ r ≡ step-setting d ⌝ }
         ensures interval { λ r. ⌜ now (self .exit) .interval .grams ≡ after r (now (self .entry) .interval .grams) d ⌝ }
         ensures below { λ _. ⌜ now (self .exit) .below ≡ now (self .entry) .below ⌝ }
-        ensures meaning { λ r. ⌜ ((k : ℕ) → step-answers (S·ReadingSource .answers) (now (self .exit)) k ≡ after r (step-answers (S·ReadingSource .answers) (now (self .entry)) k) (stepped d (S·ReadingSource .answers (now (self .entry) .below) k))) ⌝ }
+        ensures meaning { λ r. ⌜ ((k : ℕ) → step-answers (S·ReadingSource .answers) (now (self .exit)) k
+            ≡ after r (step-answers (S·ReadingSource .answers) (now (self .entry)) k) (stepped d (S·ReadingSource .answers (now (self .entry) .below) k))) ⌝ }
     {
         self.interval = Interval::new(d)?;
         Ok(())

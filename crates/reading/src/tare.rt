@@ -66,7 +66,8 @@ impl<S: ReadingSource> Tare<S> {
         ensures answer { λ r. ⌜ r ≡ tare-setting channel grams ⌝ }
         ensures tares { λ r. ⌜ grams-each (now (self .exit) .tares) ≡ after r (grams-each (now (self .entry) .tares)) (set (grams-each (now (self .entry) .tares)) (channel - 1) grams) ⌝ }
         ensures below { λ _. ⌜ now (self .exit) .below ≡ now (self .entry) .below ⌝ }
-        ensures meaning { λ r. ⌜ Changes (tare-answers (S·ReadingSource .answers) (now (self .entry))) (tare-answers (S·ReadingSource .answers) (now (self .exit))) channel (tared grams (S·ReadingSource .answers (now (self .entry) .below) channel)) r ⌝ }
+        ensures meaning { λ r. ⌜ Changes (tare-answers (S·ReadingSource .answers) (now (self .entry))) (tare-answers (S·ReadingSource .answers) (now (self .exit)))
+            channel (tared grams (S·ReadingSource .answers (now (self .entry) .below) channel)) r ⌝ }
     {
         if !is_channel(channel) {
             return Err(SettingRefusal::NoChannel);
