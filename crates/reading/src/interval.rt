@@ -34,13 +34,13 @@ impl Interval {
     }
 
     // The interval at which every whole gram is shown.
-    pub fn one() -> Interval
+    pub(crate) fn one() -> Interval
         ensures { λ r. ⌜ r .grams ≡ 1 ⌝ }
     {
         Interval { grams: 1 }
     }
 
-    pub fn grams(self) -> u32
+    pub(crate) fn grams(self) -> u32
         ensures { λ r. ⌜ r ≡ self .grams ⌝ }
     {
         self.grams
