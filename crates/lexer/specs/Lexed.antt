@@ -35,6 +35,15 @@ Is-token (Word w) = Unit {0}
 Is-token (Bad cause) = Unit {0}
 Is-token End = ⊥
 
+-- A number has a value that a word can hold.
+abbrev pub Small : Kind → Type 0
+Small (Number n) = n ≤ 268435455
+Small Name = Unit {0}
+Small (Operator o) = Unit {0}
+Small (Word w) = Unit {0}
+Small (Bad cause) = Unit {0}
+Small End = Unit {0}
+
 -- A token that takes the bytes from p to e, and the tokens after it; the end, and none.
 abbrev pub then-from : List ℕ → Kind → ℕ → ℕ → List Token
 then-from text (Number n) p e = token-of text (Number n) p e ∷ tokens-from text e

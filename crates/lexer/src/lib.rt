@@ -9,7 +9,7 @@ ghost use lib.ListN.{length, getD};
 ghost use Rattle.std.specs.shelf.Lists.{between};
 ghost use Rattle.std.specs.shelf.Text.{sameBytes};
 ghost use Rattle.recipe.specs.Tokens.{blank, digit, letter, name-token};
-ghost use Rattle.lexer.specs.Lexed.{tokens-from, token-of, Valid, rest, Unbroken, One-answer, Number-read, Name-ends, Signed, capped, Is-token};
+ghost use Rattle.lexer.specs.Lexed.{tokens-from, token-of, Valid, rest, Unbroken, One-answer, Number-read, Name-ends, Signed, capped, Is-token, Small};
 
 const LARGEST_NUMBER: u32 = 268_435_455;
 
@@ -124,7 +124,7 @@ fn is_spelled(name: &[u8], word: &[u8]) -> bool
 // A reserved word or a name. A reserved word is never too long.
 fn word_or_name(text: &[u8], start: usize, end: usize) -> Kind
     requires { ⌜ start < end ⌝ ∗ ⌜ end ≤ length (now text) ⌝ }
-    ensures { λ r. ⌜ name-token start (between start end (now (text .entry))) ≡ token-of (now (text .entry)) r start end ⌝ ∗ ⌜ Is-token r ⌝ }
+    ensures { λ r. ⌜ name-token start (between start end (now (text .entry))) ≡ token-of (now (text .entry)) r start end ⌝ ∗ ⌜ Is-token r ⌝ ∗ ⌜ Small r ⌝ }
 {
     let name = &text[start..end];
     if is_spelled(name, b"let") {
@@ -151,7 +151,7 @@ fn word_or_name(text: &[u8], start: usize, end: usize) -> Kind
 // What a byte is that begins neither a number nor a name, and is no blank.
 fn sign(c: u8) -> Kind
     requires { ⌜ blank c ≡ false ⌝ }
-    ensures { λ r. ⌜ Signed c r ⌝ ∗ ⌜ Is-token r ⌝ }
+    ensures { λ r. ⌜ Signed c r ⌝ ∗ ⌜ Is-token r ⌝ ∗ ⌜ Small r ⌝ }
 {
     match c {
         b'(' => Kind::Word(Word::Open),
@@ -169,6 +169,7 @@ fn sign(c: u8) -> Kind
 pub fn next_token(text: &[u8], at: usize) -> Lexeme
     ensures valid { λ r. ⌜ (min at (length (now (text .entry))) ≤ r .start) × Valid (now (text .entry)) r ⌝ }
     ensures reads { λ r. ⌜ tokens-from (now (text .entry)) at ≡ rest (now (text .entry)) r ⌝ }
+    ensures small { λ r. ⌜ Small (r .kind) ⌝ }
     ensures unbroken { λ r. ⌜ Unbroken (now (text .entry)) (r .start) (r .end) ⌝ }
 {
     if at >= text.len() {

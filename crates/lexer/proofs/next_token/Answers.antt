@@ -11,6 +11,7 @@ returns-then-at-text c =
     record {
       valid = (omega arith, (omega arith, omega arith, refl));
       reads = at-end text (c .args .at) (omega arith);
+      small = tt;
       unbroken = unbroken-none text (length text);
     }
 
@@ -21,6 +22,7 @@ returns-then-start-text c =
     record {
       valid = (omega arith, (omega arith, omega arith, c .if-start-text .taken));
       reads = c .past-blanks-start .ensures .same ∙ at-end text p (omega arith);
+      small = tt;
       unbroken = unbroken-none text p;
     }
 
@@ -31,8 +33,9 @@ returns c =
     let h : p < length text = omega arith in
     let s = c .sign-kind .ensures in
     record {
-      valid = (omega arith, (omega arith, omega arith, proper (c .sign-kind .result) p (p + 1) (length text) (s .1) (omega arith)));
-      reads = c .past-blanks-start .ensures .same ∙ signed text (c .sign-kind .result) p (getD text p 0) (s .1) (s .0 text p (p + 1))
+      valid = (omega arith, (omega arith, omega arith, proper (c .sign-kind .result) p (p + 1) (length text) (s .1 .0) (omega arith)));
+      reads = c .past-blanks-start .ensures .same ∙ signed text (c .sign-kind .result) p (getD text p 0) (s .1 .0) (s .0 text p (p + 1))
           (sign-there text p h (sym (c .if-is-digit .ensures tt)) (sym (c .if-is-letter .ensures tt)));
+      small = s .1 .1;
       unbroken = unbroken-more text p p (unbroken-none text p) (c .past-blanks-start .ensures .stops h);
     }
