@@ -1,8 +1,0 @@
-mod Steps
-mod Faults
-mod Lookups
-mod Words
-mod Makes
-mod Spots
-mod Heads
-mod Recipes

@@ -1,2 +1,0 @@
-mod Scans
-mod One
