@@ -1,4 +1,6 @@
 // What an arithmetic is: values in places of memory, and seven rules over them.
+#![tactic(auto)]
+
 mod fault;
 mod rules;
 

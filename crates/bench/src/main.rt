@@ -1,4 +1,6 @@
 // The bench program: reads a session, from a file or from standard input, and prints its record.
+#![tactic(auto)]
+
 use anyhow::anyhow;
 use session::Bench;
 use std::alloc::Global;

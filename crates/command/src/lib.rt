@@ -1,4 +1,6 @@
 // Reads one line of a session: a command with its arguments, or why the line is not understood.
+#![tactic(auto)]
+
 ghost use Rattle.std.specs.Prelude.{◌≡◌, true, IfOk, OnErr};
 ghost use Rattle.command.specs.Understood.{line_lists, meant, understood};
 ghost use Rattle.command.specs.Laws.{CutIntoWords};

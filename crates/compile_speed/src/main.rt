@@ -1,5 +1,7 @@
 // How long a compile takes. `speed FILE` compiles the recipe in FILE and says what came of it; `speed FILE N` compiles
 // it N times and adds the microseconds of one compile.
+#![tactic(auto)]
+
 use anyhow::anyhow;
 use compiler::compile;
 use std::alloc::{AllocError, Global};

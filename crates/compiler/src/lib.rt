@@ -1,4 +1,6 @@
 // Compilation of recipe text.
+#![tactic(auto)]
+
 mod stages;
 
 pub use stages::compile;

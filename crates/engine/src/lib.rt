@@ -1,4 +1,6 @@
 // Runs images: one text for every arithmetic, on any words and any contents of the memory that it is lent.
+#![tactic(auto)]
+
 mod advance;
 mod run;
 mod step;

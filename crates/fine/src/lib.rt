@@ -1,4 +1,6 @@
 // Fine: grams with a fraction, binary64 numbers of magnitude at most 2,147,483,647.
+#![tactic(auto)]
+
 ghost use Rattle.std.specs.Prelude.{◌≡◌};
 ghost use Rattle.std.specs.Float.Ieee.{eq};
 ghost use Rattle.fine.specs.OfFine.{naught, is_value, above_zero, counted, answered, divided, fine_rules};

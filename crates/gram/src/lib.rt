@@ -1,4 +1,6 @@
 // Gram: whole grams from -2,147,483,647 to 2,147,483,647; a result beyond is out of range.
+#![tactic(auto)]
+
 ghost use Rattle.std.specs.Prelude.{◌≡◌};
 ghost use Rattle.gram.specs.OfGram.{counted, checked, divided, gram_rules};
 ghost use Rattle.std.proofs.Common.{rules};

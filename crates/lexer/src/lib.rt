@@ -1,4 +1,6 @@
 // The next token of a recipe text.
+#![tactic(auto)]
+
 ghost use Rattle.std.specs.Prelude.{◌≡◌, ℕ, ◌+◌, ◌-◌, ◌*◌, ◌<◌, ◌≤◌, min, true, false, ◌||◌, length, slice_index};
 ghost use Rattle.std.specs.List.{between};
 ghost use Rattle.std.specs.Str.{bytes_eq};

@@ -1,4 +1,6 @@
 // The machine that runs images: the types that its definitions and its code share. What it does is in specs/.
+#![tactic(auto)]
+
 mod decode;
 mod fault;
 mod theorems;

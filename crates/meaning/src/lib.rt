@@ -1,4 +1,6 @@
 // What recipes mean, and that their images do just that. The definitions and the theorems are in specs/.
+#![tactic(auto)]
+
 ghost use Rattle.meaning.specs.Theorem.{FoundExactly, Headed, LimitHarmless, Runs, SplitAlike};
 
 use arithmetic::Arithmetic;

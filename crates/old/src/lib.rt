@@ -1,4 +1,6 @@
 // Old: whole grams in 32 bits of two's complement, results taken modulo 2^32.
+#![tactic(auto)]
+
 mod modulo;
 
 ghost use Rattle.std.specs.Prelude.{◌≡◌, ◌+ℤ◌, ◌-ℤ◌, ◌*ℤ◌, IfOk, int_div};

@@ -1,4 +1,6 @@
 // A pass over a recipe text: reading, limits, names, frames and words in one descent.
+#![tactic(auto)]
+
 mod cursor;
 mod descent;
 mod names;

@@ -1,4 +1,6 @@
 // Readings of a scale: what each channel answers, from the bus records up through tares and display steps.
+#![tactic(auto)]
+
 mod answer;
 mod board;
 mod drop;

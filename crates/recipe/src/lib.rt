@@ -1,4 +1,6 @@
 // Recipe text: its tokens, its grammar, its rules and its image. The definitions are in specs/.
+#![tactic(auto)]
+
 mod cause;
 mod worked;
 

@@ -1,4 +1,6 @@
 // The bench program: reads sessions, from files or from standard input, and prints their records.
+#![tactic(auto)]
+
 mod people;
 
 use anyhow::anyhow;

@@ -1,4 +1,6 @@
 // A session on the bench: hoppers that are set and read, and the answer to each command.
+#![tactic(auto)]
+
 mod answer;
 mod bench;
 mod hoppers;

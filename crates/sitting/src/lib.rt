@@ -1,4 +1,6 @@
 // A sitting: a session's lines and its recipes that are compiled, and the answer to each line.
+#![tactic(auto)]
+
 mod lines;
 mod words;
 

@@ -1,4 +1,6 @@
 // Two long runs, to be timed: speed WORD, where WORD is fib or sum, in Gram, or old-fib or old-sum, in Old.
+#![tactic(auto)]
+
 use anyhow::anyhow;
 use arithmetic::Arithmetic;
 use engine::{Held, Run};

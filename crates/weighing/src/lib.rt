@@ -1,4 +1,6 @@
 // Weights of several channels added up, in any arithmetic and over any source of readings.
+#![tactic(auto)]
+
 mod fault;
 mod totals;
 
