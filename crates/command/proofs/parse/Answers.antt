@@ -12,7 +12,7 @@ pub bounds-name-0 : goal.bounds-name-0
 bounds-name-0 c =
     let is = c.of-rest.ensures.words in
     let each = subst (AllByRecursion Word) (sym is) c.of-rest.ensures.cut.each in
-    let some = first_some (left c.of-rest.result) each (sym c.if-is-done.ensures) in
+    let some = first_some (left c.of-rest.result) each (sym c.if-is_done.ensures) in
     omega (arith, some, ap length c.next-name.ensures.word)
 
 -- What the command's arguments say is what the line means.

@@ -18,7 +18,7 @@ loop-channel-preserved c = goes_on _ _ _ (stepped (goal.at.loop-channel-preserve
 pub loop-channel-smaller : goal.loop-channel-smaller
 loop-channel-smaller c =
     let h = shorter (left c.loop-channel.line) c.in-Ok.channel c.in-Ok.ensures.value in
-    omega (arith, ap length c.next-number.ensures.rest)
+    omega (arith, ap length c.next_number.ensures.rest)
 
 pub returns-in-Err : goal.returns-in-Err
 returns-in-Err c =

@@ -6,8 +6,8 @@ use Rattle.command.proofs.numbers.below_zero.Goals as goal
 
 pub returns : goal.returns
 returns c =
-    let is = c.in-ok-size.ensures in
-    let limit = bounded 2147483648 c.args.digits.now c.in-ok-size.size is in
+    let is = c.in_ok-size.ensures in
+    let limit = bounded 2147483648 c.args.digits.now c.in_ok-size.size is in
     ap Some (omega (arith, ints)) ∙ ap (option_map (λ n. neg_ℤ (pos n))) is
 
 pub returns-in-err-size : goal.returns-in-err-size

@@ -10,4 +10,4 @@ returns-in-45 c =
     let w = c.args.word.now in
     let some : 0 < length w = omega (arith, ltb-false) in
     let sign : get_or w 0 0 ≡ 45 = omega (arith, ltb-false) in
-    c.below-zero.ensures ∙ (ap below_zero_in (take_rest w 1) ∙ minus w some sign)
+    c.below_zero.ensures ∙ (ap below_zero_in (take_rest w 1) ∙ minus w some sign)

@@ -8,7 +8,7 @@ pub loop-byte-init : goal.loop-byte-init
 loop-byte-init c = record { sum = refl; digits = refl }
 
 pub loop-byte-preserved : goal.loop-byte-preserved
-loop-byte-preserved c = one_more c.args.digits.now _ _ _ c.loop-byte-test.true c.in-ok-value.ensures c.loop-byte.invariant
+loop-byte-preserved c = one_more c.args.digits.now _ _ _ c.loop-byte-test.true c.in_ok-value.ensures c.loop-byte.invariant
 
 pub returns-in-err-value : goal.returns-in-err-value
 returns-in-err-value c =
@@ -20,7 +20,7 @@ pub returns-then-value-limit : goal.returns-then-value-limit
 returns-then-value-limit c =
     let xs = c.args.digits.now in
     let w = whole xs c.loop-byte.byte-index c.loop-byte.value c.loop-byte-test.false c.loop-byte.invariant in
-    let some : 0 < length xs = omega (arith, eqb-false (length xs) 0 (sym c.if-is-empty.ensures)) in
+    let some : 0 < length xs = omega (arith, eqb-false (length xs) 0 (sym c.if-is_empty.ensures)) in
     ap Some w.0 ∙ fits xs c.args.limit some w.1 (omega arith)
 
 pub returns-else-value-limit : goal.returns-else-value-limit

@@ -26,5 +26,5 @@ returns c =
     let q : SFits w32 c.args.divisor = search rules in
     let nonzero = c.if-divisor-eq0.false in
     let above : 0 < of_z w32 c.args.divisor = omega arith in
-    let quotient = c.of.ensures ∙ settled _ _ above (simp to_z-of_z at c.checked-div.ensures) in
+    let quotient = c.of.ensures ∙ settled _ _ above (simp to_z-of_z at c.checked_div.ensures) in
     quotient ∙ sym (cond-false _ (Err DivisorZero) _ (ne_eqb _ _ (size c.args.divisor nonzero)))

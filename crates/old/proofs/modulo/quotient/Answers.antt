@@ -11,6 +11,6 @@ returns c =
     let b = c.args.b in
     let p : SFits w32 a = search rules in
     let q : SFits w32 b = search rules in
-    let r : SFits w32 c.wrapping-div.result = search rules in
-    let bits = to_z-of_z w32 _ r ∙ (simp to_z-of_z at c.wrapping-div.ensures) ∙ quotient_wraps a b p in
+    let r : SFits w32 c.wrapping_div.result = search rules in
+    let bits = to_z-of_z w32 _ r ∙ (simp to_z-of_z at c.wrapping_div.ensures) ∙ quotient_wraps a b p in
     record { bits = bits; congruent = let P : ℤ → Type 0 = Wraps (quot_z a b) in subst P (sym bits) (wrapped_wraps (quot_z a b)) }

@@ -8,6 +8,6 @@ pub returns : goal.returns
 returns c =
     let line = c.args.self.now.rest.now in
     let past = c.blanks.result in
-    let w = c.word-len.ensures in
-    let cut = cut_past line _ past c.word-len.result (take_rest line past) c.blanks.ensures.same c.blanks.ensures.stops w.clear w.stops in
-    record { word = c.split-at.ensures.front ∙ cut.word; rest = ap words c.split-at.ensures.back ∙ cut.left }
+    let w = c.word_len.ensures in
+    let cut = cut_past line _ past c.word_len.result (take_rest line past) c.blanks.ensures.same c.blanks.ensures.stops w.clear w.stops in
+    record { word = c.split_at.ensures.front ∙ cut.word; rest = ap words c.split_at.ensures.back ∙ cut.left }

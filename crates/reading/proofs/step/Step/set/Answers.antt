@@ -6,8 +6,8 @@ use Rattle.reading.proofs.step.Step.set.Goals as goal
 
 pub returns : goal.returns
 returns g c =
-    let told = c.in-ok-self.ensures.answer in
-    let taken : c.in-ok-self.field-0.grams ≡ c.args.d = search rules in
+    let told = c.in_ok-self.ensures.answer in
+    let taken : c.in_ok-self.field-0.grams ≡ c.args.d = search rules in
     record { answer = search rules; interval = search rules; below = search rules; meaning = search rules }
 
 pub returns-in-err-self : goal.returns-in-err-self

@@ -10,5 +10,5 @@ returns g c = record {
   tares = search rules;
   meaning = λ lawful k.
       let f = g.S.ReadingSource.answers c.args.below in
-      ap (λ t. tared t (f k)) (ap (λ ts. tare_at ts k) c.no-tares.ensures ∙ no_tare k) ∙ untared (f k) (lawful.within k);
+      ap (λ t. tared t (f k)) (ap (λ ts. tare_at ts k) c.no_tares.ensures ∙ no_tare k) ∙ untared (f k) (lawful.within k);
 }
