@@ -5,8 +5,8 @@ use Rattle.reading.proofs.Quotients.{bounded, drop_fits, drops, in_code, positiv
 use Rattle.reading.proofs.Weighed.{grams, some}
 use Rattle.reading.proofs.interval.Interval.dropped.Goals as goal
 
-pub overflow-mul-grams : goal.overflow-mul-grams
-overflow-mul-grams c =
+pub overflow_mul-grams : goal.overflow_mul-grams
+overflow_mul-grams c =
     let d = c.args.self.grams in
     let z = c.args.weight.grams in
     rw (c.grams-d.ensures, c.grams.ensures, in_code d z (bounded d c.args.self.lawful) c.args.weight.within)

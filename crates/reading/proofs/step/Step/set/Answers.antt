@@ -10,8 +10,8 @@ returns g c =
     let taken : c.in_ok-self.field-0.grams ≡ c.args.d = search rules in
     record { answer = search rules; interval = search rules; below = search rules; meaning = search rules }
 
-pub returns-in-err-self : goal.returns-in-err-self
-returns-in-err-self g c =
-    let passed = err_from_is_err_and c.from-residual.result c.from-residual.ensures.1 in
-    let told = c.in-err-self.ensures.answer in
+pub returns-in_err-self : goal.returns-in_err-self
+returns-in_err-self g c =
+    let passed = err_from_is_err_and c.from_residual.result c.from_residual.ensures.1 in
+    let told = c.in_err-self.ensures.answer in
     rw (passed.1, passed.2) record { answer = interval_refused c.args.d _ told; interval = search rules; below = search rules; meaning = search rules }
