@@ -1,7 +1,6 @@
 -- The float constants of the code, as the rules write them.
 use Rattle.std.proofs.Common.{◌≡◌, refl}
-use lib.Count.{count_trailing_zeros}
-use lib.Ieee.{of_bits, of_fields, odd, binary64}
+use lib.Ieee.{of_bits, binary64}
 use Rattle.fine.specs.OfFine.{naught, largest}
 
 pub naught_is : of_bits binary64 0 ≡ naught

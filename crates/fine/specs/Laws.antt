@@ -1,6 +1,6 @@
 -- Fine keeps the laws of an arithmetic. Assumes nothing.
-use Rattle.std.specs.Prelude.{◌≡◌, ℕ, suc, ◌^◌, ◌≤◌, Bool, true, false, cond, T, ℤ, pos, negsuc, IfOk, Ok, Err, unsigned_abs, refl, Float}
-use Rattle.std.proofs.Common.{sym, ap, ◌∙◌, arith}
+use Rattle.std.specs.Prelude.{◌≡◌, ℕ, suc, ◌≤◌, Bool, true, false, cond, ℤ, pos, negsuc, IfOk, Ok, Err, unsigned_abs, refl, Float}
+use Rattle.std.proofs.Common.{sym, ap, arith}
 use Rattle.std.specs.Float.Ieee.{add, sub, mul, le, of_int, to_signed, round}
 use Rattle.std.specs.Float.Ieee.Bits.{is_true}
 use Rattle.std.specs.Float.Ieee.Back.{round_whole}
@@ -10,7 +10,7 @@ use Rattle.std.specs.Float.{float_with_sign, nan, inf, fin, binary64}
 use Rattle.std.proofs.lemmas.Bool.{cond-true}
 use Rattle.arithmetic.specs.declared.fault.ArithmeticFault.TheVariants.{OutOfRange, DivisorZero}
 use Rattle.fine.specs.declared.Fine.{Fine}
-use Rattle.arithmetic.specs.Rules.{Answer, Rules, Lawful, OfValues, counts}
+use Rattle.arithmetic.specs.Rules.{Answer, Lawful, counts}
 use Rattle.fine.specs.OfFine.{naught, largest, is_value, above_zero, place, counted, answered, divided, fine_rules}
 
 -- ---- a whole number up to the largest is a value

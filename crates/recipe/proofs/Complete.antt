@@ -1,19 +1,19 @@
 -- The machine reads every text of the grammar that keeps the limits, and answers its tree. So a text has one such tree at most.
-use Rattle.std.proofs.Common.{◌≡◌, ℕ, ◌+◌, ◌<◌, ◌≤◌, max, cond, leb, List, [], ◌∷◌, ◌++◌, sym, refl, ap, ◌∙◌, arith}
+use Rattle.std.proofs.Common.{◌≡◌, ℕ, ◌+◌, ◌<◌, ◌≤◌, cond, leb, List, [], ◌∷◌, refl, ◌∙◌, arith}
 use mathlib.Core.Option.{Option, none, some}
 use Rattle.std.proofs.lemmas.Bool.{le-leb}
-use Rattle.recipe.specs.Tokens.{Op, Plus, Minus, Times, Over, Word, Let, In, Ifp, Then, Else, Weigh, Open, Close, Comma, Equals, Ident, Literal}
-use Rattle.recipe.specs.Tokens.{Token, Number, Name, Operator, TheWord, Bad, Verdict, fine, wrong}
+use Rattle.recipe.specs.Tokens.{Op, In, Then, Else, Open, Close, Comma, Equals, Ident}
+use Rattle.recipe.specs.Tokens.{Token, Name, Operator, TheWord, Verdict, fine}
 use Rattle.recipe.specs.Grammar.{Expr, num, var, op, let_in, ifp, call, weigh, group, Arguments, one, more, Several, one_only, and_then, Declaration}
-use Rattle.recipe.specs.Grammar.{declare, Recipe, recipe, JoinsProducts, by_plus, by_minus, JoinsAtoms, by_times, by_over, IsExpr, a_let, an_ifp}
+use Rattle.recipe.specs.Grammar.{declare, Recipe, JoinsProducts, by_plus, by_minus, JoinsAtoms, by_times, by_over, IsExpr, a_let, an_ifp}
 use Rattle.recipe.specs.Grammar.{a_sum, IsSum, a_product, and_product, IsProduct, an_atom, and_atom, IsAtom, a_number, a_name, a_call, a_weigh}
-use Rattle.recipe.specs.Grammar.{bracketed, IsArguments, an_argument, and_argument, IsNames, a_parameter, and_parameter, IsDeclaration, declared}
+use Rattle.recipe.specs.Grammar.{bracketed, IsArguments, an_argument, and_argument, IsNames, a_parameter, and_parameter, declared}
 use Rattle.recipe.specs.Grammar.{IsDeclarations, a_declaration, and_declaration, IsRecipe, a_recipe}
-use Rattle.recipe.specs.Machine.{Left, nothing, left, apply, with_argument, with_one, Context, in_body, in_main, let_value, let_body, if_test}
-use Rattle.recipe.specs.Machine.{if_then, if_else, bracket, argument, State, stuck, start, first_head, head_open, head_name, head_next, head_equals}
-use Rattle.recipe.specs.Machine.{want, let_name, let_equals, operand, weighed, named, after_product, after_sum, after_expr}
-use Rattle.recipe.specs.Limits.{size, size_or_none, depth, reading, unless}
-use Rattle.recipe.specs.Within.{nesting, nestings, constructs, constructs_of, body_constructs, all_constructs, FitsDeclaration, FitDeclarations}
+use Rattle.recipe.specs.Machine.{Left, nothing, left, apply, Context, in_body, in_main, let_value, let_body, if_test}
+use Rattle.recipe.specs.Machine.{if_then, if_else, bracket, argument, State, start, first_head, head_open, head_name, head_next}
+use Rattle.recipe.specs.Machine.{want, operand, named, after_product, after_sum, after_expr}
+use Rattle.recipe.specs.Limits.{size, depth, reading, unless}
+use Rattle.recipe.specs.Within.{nesting, nestings, constructs, constructs_of, all_constructs, FitDeclarations}
 use Rattle.recipe.specs.Within.{Within}
 
 -- Limits that are kept.

@@ -1,17 +1,17 @@
 -- A reading that is fine has kept the limits.
-use Rattle.std.proofs.Common.{◌≡◌, ℕ, zero, suc, ◌+◌, ◌<◌, ◌≤◌, max, Bool, true, false, cond, eqb, leb, List, [], ◌∷◌, sym, refl, ap, ◌∙◌, subst, arith}
+use Rattle.std.proofs.Common.{◌≡◌, ℕ, zero, suc, ◌+◌, ◌≤◌, Bool, true, false, cond, leb, List, [], ◌∷◌, sym, refl, ap, ◌∙◌, subst, arith}
 use mathlib.Core.Option.{Option, none, some}
 use Rattle.std.proofs.lemmas.Bool.{leb-true}
-use Rattle.recipe.specs.Tokens.{Op, Plus, Minus, Times, Over, Word, Let, In, Ifp, Then, Else, Weigh, Open, Close, Comma, Equals, Ident, Literal}
-use Rattle.recipe.specs.Tokens.{Token, Number, Name, Operator, TheWord, Bad, place, Verdict, fine, wrong}
-use Rattle.recipe.specs.Grammar.{Expr, num, var, op, let_in, ifp, call, weigh, group, Arguments, one, more, Several, one_only, and_then, Declaration}
-use Rattle.recipe.specs.Grammar.{declare, Recipe, recipe}
+use Rattle.recipe.specs.Tokens.{Op, Plus, Minus, Times, Over, Let, In, Ifp, Then, Else, Weigh, Open, Close, Comma, Equals, Ident}
+use Rattle.recipe.specs.Tokens.{Token, Number, Name, Operator, TheWord, Bad, place, Verdict, fine}
+use Rattle.recipe.specs.Grammar.{Expr, num, var, let_in, ifp, call, weigh, group, Arguments, Several, Declaration}
+use Rattle.recipe.specs.Grammar.{declare, Recipe}
 use Rattle.recipe.specs.Machine.{Left, nothing, left, apply, with_argument, with_one, Context, in_body, in_main, let_value, let_body, if_test}
 use Rattle.recipe.specs.Machine.{if_then, if_else, bracket, argument, State, stuck, start, first_head, head_open, head_name, head_next, head_equals}
-use Rattle.recipe.specs.Machine.{want, let_name, let_equals, operand, weighed, named, after_product, after_sum, after_expr, code, pick, on, on_name}
-use Rattle.recipe.specs.Machine.{on_number, on_in, expr_on, sum_on, product_on, operand_on, feed, expr_end, finish}
+use Rattle.recipe.specs.Machine.{want, let_name, let_equals, operand, weighed, named, after_product, after_sum, after_expr}
+use Rattle.recipe.specs.Machine.{expr_on, sum_on, product_on, operand_on, feed, expr_end, finish}
 use Rattle.recipe.specs.Limits.{size, size_or_none, depth, reading, unless, judged, counted, with_operand, with_operator, at_the_end}
-use Rattle.recipe.specs.Within.{nesting, nestings, constructs, constructs_of, body_constructs, all_constructs, FitsDeclaration, FitDeclarations}
+use Rattle.recipe.specs.Within.{nesting, nestings, constructs, constructs_of, all_constructs, FitDeclarations}
 use Rattle.recipe.specs.Within.{Within}
 use Rattle.recipe.proofs.Sound.{by_word, by_name, by_in}
 

@@ -1,11 +1,10 @@
 -- Where the reading refuses for a limit.
-use Rattle.std.proofs.Common.{◌≡◌, ℕ, zero, suc, ◌⊎◌, List, [], ◌∷◌, ◌++◌, sym, refl, ap, ◌∙◌, subst, inl, inr, arith}
+use Rattle.std.proofs.Common.{◌≡◌, ℕ, zero, suc, ◌⊎◌, List, [], ◌∷◌, ◌++◌, sym, refl, ap, ◌∙◌, inl, inr, arith}
 use mathlib.Core.Option.{Option, none, some}
 use Rattle.recipe.specs.Tokens.{Token, place, Verdict, fine, wrong}
-use Rattle.recipe.specs.Grammar.{Recipe, IsRecipe}
+use Rattle.recipe.specs.Grammar.{Recipe}
 use Rattle.recipe.specs.Machine.{State, stuck, start, feed, run, finish}
 use Rattle.recipe.specs.Limits.{reading, unless, judged, counted, at_the_end}
-use Rattle.recipe.specs.Within.{Within}
 use Rattle.recipe.specs.Theorem.{LimitedAt}
 use Rattle.recipe.proofs.Complete.{complete}
 use Rattle.recipe.proofs.Exact.{run-++, run_begins}

@@ -1,5 +1,5 @@
 -- What a compiler's proof wants of its outputs: words written part by part, their number, faults found one after another, room in a frame.
-use Rattle.std.proofs.Common.{◌≡◌, ℕ, ◌+◌, ◌-◌, ◌*◌, ◌<◌, ◌≤◌, ◌≢◌, List, [], ◌∷◌, ◌++◌, length, take, drop, set, Some, sym, refl, ap, ◌∙◌, add-zero, arith}
+use Rattle.std.proofs.Common.{◌≡◌, ℕ, ◌+◌, ◌*◌, ◌<◌, ◌≤◌, ◌≢◌, List, [], ◌∷◌, ◌++◌, length, take, drop, set, Some, sym, refl, ap, ◌∙◌, add-zero, arith}
 use Rattle.recipe.specs.declared.cause.Refusal.{Refusal}
 use Rattle.std.proofs.lemmas.List.{length-append, set_comm, length-set, append_assoc, take-append-drop, take_more_set, drop-set-lt}
 use Rattle.recipe.specs.Grammar.{Expr, num, var, op, let_in, ifp, call, weigh, group, Arguments, one, more, Several, one_only, and_then}

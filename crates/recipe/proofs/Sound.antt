@@ -1,17 +1,17 @@
 -- What the machine answers is the tree of a text of the grammar.
-use Rattle.std.proofs.Common.{◌≡◌, ℕ, zero, suc, Bool, true, false, cond, T, eqb, ◌⊎◌, List, [], ◌∷◌, ◌++◌, sym, refl, ap, ◌∙◌, subst, inl, inr, arith, eqb→eq}
+use Rattle.std.proofs.Common.{◌≡◌, ℕ, zero, suc, Bool, true, false, cond, T, eqb, List, [], ◌∷◌, sym, refl, ap, ◌∙◌, subst, arith, eqb→eq}
 use mathlib.Core.Option.{Option, none, some}
-use Rattle.recipe.specs.Tokens.{Op, Plus, Minus, Times, Over, Word, Let, In, Ifp, Then, Else, Weigh, Open, Close, Comma, Equals, Ident, Literal}
-use Rattle.recipe.specs.Tokens.{Token, Number, Name, Operator, TheWord, Bad, place, Verdict, fine, wrong}
-use Rattle.recipe.specs.Grammar.{Expr, num, var, op, let_in, ifp, call, weigh, group, Arguments, one, more, Several, one_only, and_then, Declaration}
-use Rattle.recipe.specs.Grammar.{declare, Recipe, recipe, JoinsProducts, by_plus, by_minus, JoinsAtoms, by_times, by_over, IsExpr, a_let, an_ifp}
+use Rattle.recipe.specs.Tokens.{Op, Plus, Minus, Times, Over, Word, Let, In, Ifp, Then, Else, Weigh, Open, Close, Comma, Equals, Ident}
+use Rattle.recipe.specs.Tokens.{Token, Number, Name, Operator, TheWord, Bad, place, Verdict, fine}
+use Rattle.recipe.specs.Grammar.{Expr, Arguments, Several, Declaration}
+use Rattle.recipe.specs.Grammar.{declare, Recipe, JoinsProducts, by_plus, by_minus, JoinsAtoms, by_times, by_over, IsExpr, a_let, an_ifp}
 use Rattle.recipe.specs.Grammar.{a_sum, IsSum, a_product, and_product, IsProduct, an_atom, and_atom, IsAtom, a_number, a_name, a_call, a_weigh}
-use Rattle.recipe.specs.Grammar.{bracketed, IsArguments, an_argument, and_argument, IsNames, a_parameter, and_parameter, IsDeclaration, declared}
+use Rattle.recipe.specs.Grammar.{bracketed, IsArguments, an_argument, and_argument, IsNames, a_parameter, and_parameter, declared}
 use Rattle.recipe.specs.Grammar.{IsDeclarations, a_declaration, and_declaration, IsRecipe, a_recipe}
-use Rattle.recipe.specs.Machine.{Left, nothing, left, apply, with_argument, with_one, Context, in_body, in_main, let_value, let_body, if_test}
+use Rattle.recipe.specs.Machine.{Left, nothing, left, apply, with_one, Context, in_body, in_main, let_value, let_body, if_test}
 use Rattle.recipe.specs.Machine.{if_then, if_else, bracket, argument, State, stuck, start, first_head, head_open, head_name, head_next, head_equals}
 use Rattle.recipe.specs.Machine.{want, let_name, let_equals, operand, weighed, named, after_product, after_sum, after_expr, code, pick, on, on_name}
-use Rattle.recipe.specs.Machine.{on_number, on_in, expr_on, sum_on, product_on, operand_on, feed, run, expr_end, finish}
+use Rattle.recipe.specs.Machine.{on_in, expr_on, sum_on, product_on, operand_on, feed, run, expr_end, finish}
 use Rattle.recipe.specs.Limits.{reading, unless, judged, counted, at_the_end}
 
 -- In a text `w`, with `us` still to be read: the declarations read, and the left parts of a sum and of a product.

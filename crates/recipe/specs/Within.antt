@@ -1,5 +1,5 @@
 -- The limits of a recipe, over its tree.
-use Rattle.std.specs.Prelude.{ℕ, ◌+◌, ◌≤◌, max, []}
+use Rattle.std.specs.Prelude.{ℕ, ◌+◌, ◌≤◌, max}
 use Rattle.recipe.specs.Grammar.{Expr, num, var, op, let_in, ifp, call, weigh, group, Arguments, one, more, Several, one_only, and_then}
 use Rattle.recipe.specs.Grammar.{Declaration, declare, Recipe, recipe}
 use Rattle.recipe.specs.Limits.{size}

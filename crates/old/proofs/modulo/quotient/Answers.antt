@@ -1,4 +1,4 @@
-use Rattle.std.proofs.Common.{◌≡◌, ℤ, sym, ◌∙◌, subst, w32, SFits, rules}
+use Rattle.std.proofs.Common.{ℤ, sym, ◌∙◌, subst, w32, SFits, rules}
 use lib.Signed.{quot_z}
 use Rattle.std.proofs.lemmas.Int.{to_z-of_z}
 use Rattle.old.specs.Modulo.{Wraps}
