@@ -132,3 +132,11 @@ interval_refused d e h =
       | inl t ↦ let q : ◌≡◌ {A = ℕ} 0 1 = cc (cond-true (lawful_interval d) (Ok d) (Err BadInterval) t) in absurd (omega arith)
       | inr f ↦ let q : e ≡ BadInterval = cc (cond-false (lawful_interval d) (Ok d) (Err BadInterval) f) in rw q (sym (cond-false _ _ _ f))
     ]
+
+-- an interval that is one is taken
+pub interval_taken : (d z : ℕ) → Ok z ≡ interval_setting d → (z ≡ d) × (Ok tt ≡ step_setting d)
+interval_taken d z h =
+    elim (cases_Bool (lawful_interval d)) [
+      | inl t ↦ let q : z ≡ d = cc (cond-true (lawful_interval d) (Ok d) (Err BadInterval) t) in (q, sym (cond-true _ _ _ t))
+      | inr f ↦ let q : ◌≡◌ {A = ℕ} 0 1 = cc (cond-false (lawful_interval d) (Ok d) (Err BadInterval) f) in absurd (omega arith)
+    ]

@@ -1,3 +1,4 @@
 mod Layers
 mod Quotients
 mod Rounds
+mod Weighed

@@ -1,13 +1,16 @@
 -- Division toward zero, and what is left of a weight that is dropped to a multiple.
-use Rattle.std.proofs.Common.{◌≡◌, ℕ, zero, suc, ◌+◌, ◌*◌, ◌/◌, ◌^◌, ◌<◌, ◌≤◌, true, ℤ, pos, negsuc, ◌*ℤ◌, neg_ℤ, nat_abs, ◌≤ℤ◌, refl, ap, ◌∙◌, mod-lt, div-add-mod', zero-mul, div-le_self, div-mul-le_self, arith, w32, SFits, to_z, of_z}
+use Rattle.std.proofs.Common.{◌≡◌, ℕ, zero, suc, ◌+◌, ◌*◌, ◌/◌, ◌^◌, ◌<◌, ◌≤◌, true, ℤ, pos, negsuc, ◌*ℤ◌, neg_ℤ, nat_abs, ◌≤ℤ◌, refl, ap, ◌∙◌, Some, Option, le_trans, mod-lt, div-add-mod', zero-mul, div-le_self, div-mul-le_self, arith, w32, SFits, to_z, of_z}
 use native.Mathlib.Nat.{mul-mod_left}
 use lib.Signed.{quot_z, mag}
 use Rattle.std.proofs.lemmas.Int.{ints, to_z-of_z, to_z_pos}
 use Rattle.std.proofs.lemmas.Bool.{false≢true}
-use Rattle.weight.specs.Limit.{limit}
+use Rattle.std.specs.Option.{option_map}
+use Rattle.weight.specs.Limit.{limit, weighed}
+use Rattle.weight.specs.declared.weight.Weight.{Weight}
 use Rattle.reading.specs.Drops.{Dropped, dropped}
 use Rattle.reading.specs.Intervals.{lawful_interval}
 use Rattle.reading.proofs.Rounds.{rule}
+use Rattle.reading.proofs.Weighed.{within}
 
 pub positive : (d : ℕ) → lawful_interval d ≡ true → 0 < d
 positive zero h = absurd (false≢true h)
@@ -62,6 +65,11 @@ in_code d z b h =
 -- the same, as it is passed on
 pub passed_on : (d : ℕ) (z : ℤ) → d ≤ 50000 → nat_abs z ≤ limit → to_z w32 (of_z w32 (to_z w32 (of_z w32 (quot_z (to_z w32 (of_z w32 z)) (to_z w32 d))) *ℤ to_z w32 d)) ≡ dropped d z
 passed_on d z b h = ap (λ x. to_z w32 (of_z w32 x)) (in_code d z b h) ∙ to_z-of_z w32 (dropped d z) (drop_fits d z h)
+
+-- so the weight that the code makes of it is there, and has those grams
+pub weighs : (o : Option Weight) (d : ℕ) (g z : ℤ) → lawful_interval d ≡ true → nat_abs z ≤ limit → g ≡ z → option_map (λ w. w.grams) o ≡ weighed (to_z w32 (of_z w32 (to_z w32 (of_z w32 (quot_z (to_z w32 (of_z w32 g)) (to_z w32 d))) *ℤ to_z w32 d))) → option_map (λ w. w.grams) o ≡ Some (dropped d z)
+weighs o d g z l h e w =
+    within o _ (dropped d z) (rw e at w) (passed_on d z (bounded d l) h) (le_trans (drop_size d z) h)
 
 next : (d n : ℕ) → 0 < d → n < n / d * d + d
 next d n p = omega (arith, div-add-mod' n d, mod-lt n p)

@@ -1,13 +1,12 @@
 -- A lawful interval is taken; a refusal leaves the one that stood.
-use Rattle.std.proofs.Common.{◌≡◌, rules}
+use Rattle.std.proofs.Common.{rules}
 use Rattle.std.proofs.lemmas.Result.{err_from_is_err_and}
-use Rattle.reading.proofs.Layers.{interval_refused}
+use Rattle.reading.proofs.Layers.{interval_refused, interval_taken}
 use Rattle.reading.proofs.step.Step.set.Goals as goal
 
 pub returns : goal.returns
 returns g c =
-    let told = c.in_ok-self.ensures.answer in
-    let taken : c.in_ok-self.field-0.grams ≡ c.args.d = search rules in
+    let taken = interval_taken c.args.d c.in_ok-self.field-0.grams c.in_ok-self.ensures.answer in
     record { answer = search rules; interval = search rules; below = search rules; meaning = search rules }
 
 pub returns-in_err-self : goal.returns-in_err-self
