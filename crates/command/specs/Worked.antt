@@ -1,5 +1,5 @@
 -- Lines, and what each means.
-use Rattle.std.specs.Prelude.{◌≡◌, true, false, List, [], ◌∷◌, ◌++◌, pos, negsuc, codes}
+use Rattle.std.specs.Prelude.{◌≡◌, true, false, [], ◌∷◌, pos, negsuc, codes}
 use Rattle.command.specs.declared.types.Verb.TheVariants as verb
 use Rattle.command.specs.declared.types.Wanted.TheVariants as wanted
 use Rattle.command.specs.declared.types.Pile.TheVariants.{StepTare}

@@ -1,12 +1,11 @@
-use Rattle.std.proofs.Common.{◌≡◌, ◌<◌, false, length, get_or, sym, ap, ◌∙◌, subst, arith, rules}
+use Rattle.std.proofs.Common.{◌≡◌, length, sym, ap, ◌∙◌, subst, arith}
 use Rattle.std.specs.List.{AllByRecursion}
 use Rattle.command.specs.Left.{left}
-use Rattle.command.specs.Words.{first, words}
 use Rattle.command.specs.Understood.{answered, arguments, by_words, outcome, understood}
 use Rattle.command.specs.Laws.{Word}
 use Rattle.command.proofs.Lines.{first_some, named}
 use Rattle.command.proofs.parse.Goals as goal
-use Rattle.command.proofs.parse.Goals.{After-command-of}
+use Rattle.command.proofs.parse.Goals.{After-command_of}
 
 pub bounds-name-0 : goal.bounds-name-0
 bounds-name-0 c =
@@ -16,16 +15,16 @@ bounds-name-0 c =
     omega (arith, some, ap length c.next-name.ensures.word)
 
 -- What the command's arguments say is what the line means.
-said : (c : After-command-of) → answered (arguments c.in-Some.verb (left c.next-name.new.self)) ≡ understood c.args.line.now
+said : (c : After-command_of) → answered (arguments c.in-Some.verb (left c.next-name.new.self)) ≡ understood c.args.line.now
 said c =
     let next = c.next-name.ensures in
-    named _ _ c.next-name.result.now c.in-Some.verb (sym c.if-is-done.ensures) next.word next.rest (λ e. omega arith) c.in-Some.ensures ∙
+    named _ _ c.next-name.result.now c.in-Some.verb (sym c.if-is_done.ensures) next.word next.rest (λ e. omega arith) c.in-Some.ensures ∙
     ap by_words c.of-rest.ensures.words
 
 pub returns-in-Ok : goal.returns-in-Ok
 returns-in-Ok c =
     record {
-      meaning = ap (λ o. answered (outcome o)) (sym c.in-Ok.is) ∙ (ap answered c.in-ok-command.ensures.meaning ∙ said (goal.at.returns-in-Ok c).After-command-of);
+      meaning = ap (λ o. answered (outcome o)) (sym c.in-Ok.is) ∙ (ap answered c.in_ok-command.ensures.meaning ∙ said (goal.at.returns-in-Ok c).After-command_of);
       memory = tt;
       cut = c.of-rest.ensures.cut;
     }
@@ -33,7 +32,7 @@ returns-in-Ok c =
 pub returns-in-Err : goal.returns-in-Err
 returns-in-Err c =
     record {
-      meaning = ap (λ o. answered (outcome o)) (sym c.in-Err.is) ∙ (ap answered c.in-ok-command.ensures.meaning ∙ said (goal.at.returns-in-Err c).After-command-of);
+      meaning = ap (λ o. answered (outcome o)) (sym c.in-Err.is) ∙ (ap answered c.in_ok-command.ensures.meaning ∙ said (goal.at.returns-in-Err c).After-command_of);
       memory = tt;
       cut = c.of-rest.ensures.cut;
     }

@@ -10,5 +10,5 @@ returns c =
     let limit = bounded 2147483648 c.args.digits.now c.in_ok-size.size is in
     ap Some (omega (arith, ints)) ∙ ap (option_map (λ n. neg_ℤ (pos n))) is
 
-pub returns-in-err-size : goal.returns-in-err-size
-returns-in-err-size c = c.from-residual.ensures ∙ ap (option_map (λ n. neg_ℤ (pos n))) c.in-err-size.ensures
+pub returns-in_err-size : goal.returns-in_err-size
+returns-in_err-size c = c.from_residual.ensures ∙ ap (option_map (λ n. neg_ℤ (pos n))) c.in_err-size.ensures

@@ -1,6 +1,5 @@
-use Rattle.std.proofs.Common.{◌≡◌, ◌<◌, ◌≤◌, length, Some, sym, refl, ap, ◌∙◌, arith}
+use Rattle.std.proofs.Common.{◌<◌, ◌≤◌, length, Some, sym, refl, ap, ◌∙◌, arith}
 use Rattle.std.proofs.lemmas.Bool.{eqb-false}
-use Rattle.command.specs.Numbers.{decimal}
 use Rattle.command.proofs.Values.{one_more, stops, whole, fits, too_large}
 use Rattle.command.proofs.numbers.value.Goals as goal
 
@@ -10,11 +9,11 @@ loop-byte-init c = record { sum = refl; digits = refl }
 pub loop-byte-preserved : goal.loop-byte-preserved
 loop-byte-preserved c = one_more c.args.digits.now _ _ _ c.loop-byte-test.true c.in_ok-value.ensures c.loop-byte.invariant
 
-pub returns-in-err-value : goal.returns-in-err-value
-returns-in-err-value c =
+pub returns-in_err-value : goal.returns-in_err-value
+returns-in_err-value c =
     let l : c.args.limit ≤ 4294967295 = omega arith in
-    c.from-residual.ensures ∙
-    stops c.args.digits.now c.args.limit c.loop-byte.byte-index c.loop-byte.value l c.loop-byte-test.true c.in-err-value.ensures c.loop-byte.invariant
+    c.from_residual.ensures ∙
+    stops c.args.digits.now c.args.limit c.loop-byte.byte-index c.loop-byte.value l c.loop-byte-test.true c.in_err-value.ensures c.loop-byte.invariant
 
 pub returns-then-value-limit : goal.returns-then-value-limit
 returns-then-value-limit c =
