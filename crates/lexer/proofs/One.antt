@@ -1,5 +1,5 @@
 -- One lexeme alone meets what is promised of the next token.
-use Rattle.std.proofs.Common.{◌≡◌, ℕ, ◌+◌, ◌-◌, ◌*◌, ◌<◌, ◌≤◌, Bool, true, false, cond, ◌&&◌, ◌||◌, eqb, leb, ◌⊎◌, List, [], ◌∷◌, ◌++◌, length, get_or, drop, codes, sym, refl, ap, ◌∙◌, subst, inl, inr, arith}
+use Rattle.std.proofs.Common.{◌≡◌, ℕ, ◌+◌, ◌-◌, ◌*◌, ◌<◌, ◌≤◌, Bool, true, false, cond, ◌||◌, eqb, leb, List, [], ◌∷◌, ◌++◌, length, get_or, drop, codes, sym, refl, ap, ◌∙◌, subst, inl, inr, arith}
 use Rattle.std.specs.Str.{bytes_eq}
 use Rattle.std.proofs.lemmas.List.{drop_more}
 use Rattle.std.proofs.lemmas.Bool.{cases_Bool, cases_lt}
@@ -14,10 +14,9 @@ use Rattle.recipe.specs.declared.Word.{Word as AWord}
 use Rattle.recipe.specs.declared.Word.TheVariants.{Let}
 use Rattle.recipe.specs.Tokens.{Token, Number as ANumber, Name as AName, Operator as AnOperator, TheWord, Bad as ABad}
 use Rattle.recipe.specs.Tokens.{place, blank, digit, letter, scan, idle, digits, letters, number_token, name_token, sign}
-use Rattle.lexer.specs.Lexed.{tokens_from, then_from, Proper, Unbroken, Promised, OneAnswer}
+use Rattle.lexer.specs.Lexed.{tokens_from, then_from, Proper, Unbroken, OneAnswer}
 use Rattle.lexer.specs.declared.Kind.{Kind}
 use Rattle.lexer.specs.declared.Kind.TheVariants.{Number, Name, Operator, Word, Bad, End}
-use Rattle.lexer.specs.declared.Lexeme.{Lexeme}
 use Rattle.lexer.proofs.Scans.{blank_at, digit_begins, digit_more, digit_ends, letter_begins, letter_more, letter_ends, sign_at}
 
 -- Tokens whose first stands at q.

@@ -1,9 +1,9 @@
 -- Steps of the scan.
-use Rattle.std.proofs.Common.{◌≡◌, ℕ, ◌+◌, ◌-◌, ◌*◌, ◌<◌, ◌≤◌, Bool, true, false, cond, ◌&&◌, ◌||◌, eqb, leb, ◌⊎◌, List, [], ◌∷◌, ◌++◌, length, get_or, take, drop, sym, refl, ap, ◌∙◌, subst, inl, inr, arith}
+use Rattle.std.proofs.Common.{◌≡◌, ℕ, ◌+◌, ◌-◌, ◌*◌, ◌<◌, ◌≤◌, true, false, ◌&&◌, ◌||◌, eqb, leb, ◌⊎◌, List, [], ◌∷◌, ◌++◌, length, get_or, take, drop, sym, refl, ap, ◌∙◌, subst, inl, inr, arith}
 use Rattle.std.specs.List.{between}
 use Rattle.std.proofs.lemmas.List.{drop_more, drop_all, take_more, length-drop, get_or-drop}
-use Rattle.std.proofs.lemmas.Bool.{or_cases, eqb-true, cases_lt, leb-true, leb-false, cases_Bool, le-leb, lt-leb, and_parts}
-use Rattle.recipe.specs.Tokens.{Token, blank, digit, letter, scan, idle, digits, letters, number_token, name_token, sign, own, made, after, begun}
+use Rattle.std.proofs.lemmas.Bool.{or_cases, eqb-true, cases_lt, leb-true, cases_Bool, le-leb, lt-leb, and_parts}
+use Rattle.recipe.specs.Tokens.{blank, digit, letter, scan, idle, digits, letters, number_token, name_token, sign}
 use Rattle.lexer.specs.Lexed.{tokens_from, capped, IsToken, then_from, token_of, Proper, Unbroken}
 use Rattle.lexer.specs.declared.Kind.{Kind}
 use Rattle.lexer.specs.declared.Kind.TheVariants.{Number, Name, Operator, Word, Bad, End}

@@ -1,5 +1,5 @@
 -- What the next token promises.
-use Rattle.std.specs.Prelude.{◌≡◌, ℕ, ◌+◌, ◌<◌, ◌≤◌, Bool, true, false, cond, List, [], ◌∷◌, length, drop, nat_le, slice_index}
+use Rattle.std.specs.Prelude.{◌≡◌, ℕ, ◌<◌, ◌≤◌, false, cond, List, [], ◌∷◌, length, drop, nat_le, slice_index}
 use Rattle.std.specs.List.{between}
 use Rattle.recipe.specs.Causes.{cause_number}
 use Rattle.recipe.specs.Tokens.{Token, Number as ANumber, Name as AName, Operator as AnOperator, TheWord, Bad as ABad}

@@ -6,7 +6,7 @@ use Rattle.recipe.specs.declared.Op.{Op}
 use Rattle.recipe.specs.declared.Op.TheVariants.{Plus, Minus, Times, Over}
 use Rattle.recipe.specs.declared.Word.{Word}
 use Rattle.recipe.specs.declared.Word.TheVariants.{Let, In, Ifp, Then, Else, Weigh, Open, Close, Comma, Equals}
-use Rattle.recipe.specs.Tokens.{Ident, Literal, Token, Number, Name, Operator, TheWord, Bad, place, Verdict, fine, wrong}
+use Rattle.recipe.specs.Tokens.{Ident, Literal, Token, Number, Name, Operator, TheWord, Bad, Verdict, fine, wrong}
 use Rattle.recipe.specs.Grammar.{Expr, num, var, op, let_in, ifp, call, weigh, group, Arguments, one, more, Several, one_only, and_then, Declaration, declare, Recipe, recipe, JoinsProducts, by_plus, by_minus, JoinsAtoms, by_times, by_over}
 use Rattle.recipe.specs.Machine.{Left, nothing, left, apply, Context, in_body, in_main, let_value, let_body, if_test, if_then, if_else, bracket, argument, State, start, first_head, head_open, head_name, head_next, head_equals, want, let_name, let_equals, operand, weighed, named, after_product, after_sum, after_expr}
 use Rattle.recipe.specs.Limits.{depth, unless, reading, size}

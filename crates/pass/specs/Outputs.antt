@@ -1,5 +1,5 @@
 -- What the words of a tree come to.
-use Rattle.std.specs.Prelude.{◌≡◌, ℕ, ◌+◌, max, Bool, true, false, cond, ◌&&◌, ◌||◌, List, [], ◌∷◌, ◌++◌, length, Some, None, Option, nat_le}
+use Rattle.std.specs.Prelude.{◌≡◌, ℕ, ◌+◌, max, cond, List, [], ◌∷◌, ◌++◌, length, Some, None, Option, nat_le}
 use Rattle.recipe.specs.Grammar.{Expr, Arguments, Several, Declaration, declare}
 use Rattle.recipe.specs.Tokens.{Ident}
 use Rattle.recipe.specs.Names.{Signature, among, all, names_of, twice, declared_names, earliest, faults, faults_of, body_faults}

@@ -5,12 +5,11 @@ use Rattle.std.proofs.Math.Option as opt
 use Rattle.recipe.specs.declared.Op.{Op}
 use Rattle.recipe.specs.declared.Op.TheVariants.{Plus, Minus, Times, Over}
 use Rattle.recipe.specs.declared.Word.{Word as AWord}
-use Rattle.recipe.specs.declared.Word.TheVariants.{Open}
-use Rattle.recipe.specs.Tokens.{Ident, Literal, Token, Number as ANumber, Name as AName, Operator as AnOperator, TheWord, Bad as ABad, Verdict, fine, wrong, tokens}
-use Rattle.recipe.specs.Grammar.{Expr, call, Arguments, one, more, JoinsProducts, JoinsAtoms, Several, one_only, and_then, Declaration, declare, Recipe, recipe}
+use Rattle.recipe.specs.Tokens.{Ident, Token, Number as ANumber, Name as AName, Operator as AnOperator, TheWord, Bad as ABad, Verdict, fine, wrong, tokens}
+use Rattle.recipe.specs.Grammar.{Expr, call, Arguments, one, more, JoinsProducts, JoinsAtoms, Several, one_only, and_then, Declaration, declare, recipe}
 use Rattle.recipe.specs.Machine.{code, Left, nothing, apply, Context, argument, in_body, State, start, head_open, head_next, want, operand, after_product, after_sum, after_expr}
 use Rattle.recipe.specs.Theorem.{first_place}
-use Rattle.recipe.specs.Limits.{depth, reading, size, size_or_none}
+use Rattle.recipe.specs.Limits.{depth, reading, size}
 use Rattle.lexer.specs.Lexed.{tokens_from, rest, Valid, Small, token_of}
 use Rattle.lexer.specs.declared.Kind.{Kind}
 use Rattle.lexer.specs.declared.Kind.TheVariants.{Number, Name, Operator, Word, Bad, End}

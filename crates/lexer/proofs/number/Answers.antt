@@ -19,8 +19,8 @@ pub loop-i-preserved : goal.loop-i-preserved
 loop-i-preserved c =
     let text = c.args.text.now in
     let i = c.loop-i.invariant in
-    let d = sym c.if-is-digit.ensures in
-    let w = c.with-digit-value.ensures in (
+    let d = sym c.if-is_digit.ensures in
+    let w = c.with_digit-value.ensures in (
       omega arith,
       omega arith,
       w.0,
@@ -28,10 +28,10 @@ loop-i-preserved c =
       unbroken_more text c.args.at c.loop-i.i i.4 (digit_solid (get_or text c.loop-i.i 0) d),
     )
 
-pub returns-else-is-digit : goal.returns-else-is-digit
-returns-else-is-digit c =
+pub returns-else-is_digit : goal.returns-else-is_digit
+returns-else-is_digit c =
     let i = c.loop-i.invariant in
-    let over = number_ends c.args.text.now c.args.at i.3.0 c.loop-i.i (λ _. sym c.if-is-digit.ensures) in
+    let over = number_ends c.args.text.now c.args.at i.3.0 c.loop-i.i (λ _. sym c.if-is_digit.ensures) in
     (i.0, i.1, (i.3.0, i.3.1, i.3.2 ∙ over), i.4)
 
 pub returns-after-loop-i : goal.returns-after-loop-i

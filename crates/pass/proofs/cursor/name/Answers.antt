@@ -1,7 +1,6 @@
-use Rattle.std.proofs.Common.{◌≡◌, ◌<◌, ◌∷◌, length, refl, ap, ◌∙◌, arith}
-use Rattle.std.specs.List.{between}
+use Rattle.std.proofs.Common.{◌<◌, ◌∷◌, refl, ap, ◌∙◌, arith}
 use Rattle.recipe.specs.Tokens.{Ident, Name}
-use Rattle.lexer.specs.Lexed.{then_from, Proper}
+use Rattle.lexer.specs.Lexed.{then_from}
 use Rattle.pass.specs.Known.{ident}
 use Rattle.pass.proofs.cursor.name.Goals as goal
 

@@ -1,4 +1,4 @@
-use Rattle.std.proofs.Common.{◌≡◌, ℕ, ◌+◌, ◌<◌, length, sym, refl, ap, ◌∙◌, arith, rules}
+use Rattle.std.proofs.Common.{◌+◌, ◌<◌, length, ap, ◌∙◌, arith, rules}
 use Rattle.recipe.specs.declared.Word.TheVariants.{Open, Comma, Let, Ifp}
 use Rattle.std.proofs.lemmas.Result.{MatchResult-weaker, err_from_is_err_and}
 use Rattle.pass.specs.Known.{ident, Known}
@@ -12,27 +12,27 @@ use Rattle.pass.proofs.descent.+arguments_atom_binding_bracketed_choice_expressi
 
 pub arguments-loop-level-init : goal.arguments-loop-level-init
 arguments-loop-level-init t c =
-    let r = c.in-ok-so-far.ensures in
+    let r = c.in_ok-so_far.ensures in
     ((r.goes.on, omega (arith, r.goes.on.more), λ m g. g), kept_here r.kept.scoped)
 
-pub arguments-returns-in-err-so-far-2 : goal.arguments-returns-in-err-so-far-2
-arguments-returns-in-err-so-far-2 t c =
-    let s = c.in-ok-so-far.ensures in
+pub arguments-returns-in_err-so_far-2 : goal.arguments-returns-in_err-so_far-2
+arguments-returns-in_err-so_far-2 t c =
+    let s = c.in_ok-so_far.ensures in
     let i = ((carried_all c.args.functions.now s.kept c.loop-level.invariant.0).2 c.args.image.now (first_argument s.goes)).through in
-    let n = c.in-ok-next.ensures in
-    let bad = arguments_more_bad (length c.args.text.now) i.read n.0.token c.requires.1.1.1 i.on.fit.1 n.1 c.in-err-so-far-2.ensures.goes in
-    let p = err_from_is_err_and c.from-residual-in-err-so-far-2.result c.from-residual-in-err-so-far-2.ensures.1 in
+    let n = c.in_ok-next.ensures in
+    let bad = arguments_more_bad (length c.args.text.now) i.read n.0.token c.requires.1.1.1 i.on.fit.1 n.1 c.in_err-so_far-2.ensures.goes in
+    let p = err_from_is_err_and c.from_residual-in_err-so_far-2.result c.from_residual-in_err-so_far-2.ensures.1 in
     record {
       goes = rw (p.1, p.2) bad;
-      kept = kept_on (kept_on s.kept c.loop-level.invariant.1) c.in-err-so-far-2.ensures.kept;
+      kept = kept_on (kept_on s.kept c.loop-level.invariant.1) c.in_err-so_far-2.ensures.kept;
     }
 
 pub arguments-loop-level-preserved : goal.arguments-loop-level-preserved
 unfolding arguments_more
 arguments-loop-level-preserved t c =
     let j = c.loop-level.invariant.0 in
-    let n = c.in-ok-next.ensures in
-    let r = as_before c.args.functions.now c.loop-level.invariant.1 c.in-ok-so-far-2.ensures.goes in
+    let n = c.in_ok-next.ensures in
+    let r = as_before c.args.functions.now c.loop-level.invariant.1 c.in_ok-so_far-2.ensures.goes in
     let on = further c.requires.0 r.on.fit.0 r.on.fit.1 r.on.fit.3 (omega (arith, j.0.far, n.0.far, r.on.far)) (omega (arith, j.0.more, n.1, r.on.more))
     (omega (arith, j.0.slow, n.1, at_of n.0.out, r.on.slow)) in (
       (
@@ -51,17 +51,17 @@ arguments-loop-level-preserved t c =
               few = omega (arith, g.few, n.1, r.on.more);
             },
       ),
-      kept_on c.loop-level.invariant.1 c.in-ok-so-far-2.ensures.kept,
+      kept_on c.loop-level.invariant.1 c.in_ok-so_far-2.ensures.kept,
     )
 
-pub arguments-returns-in-err-next-2 : goal.arguments-returns-in-err-next-2
-arguments-returns-in-err-next-2 t c =
-    let s = c.in-ok-so-far.ensures in
+pub arguments-returns-in_err-next-2 : goal.arguments-returns-in_err-next-2
+arguments-returns-in_err-next-2 t c =
+    let s = c.in_ok-so_far.ensures in
     let text = c.args.text.now in
     let l = c.loop-level.so_far.look in
     let i = ((carried_all c.args.functions.now s.kept c.loop-level.invariant.0).2 c.args.image.now (first_argument s.goes)).through in
-    let r = c.in-err-next-2.ensures in
-    let p = err_from_is_err_and c.from-residual-in-err-next-2.result c.from-residual-in-err-next-2.ensures.1 in
+    let r = c.in_err-next-2.ensures in
+    let p = err_from_is_err_and c.from_residual-in_err-next-2.result c.from_residual-in_err-next-2.ensures.1 in
     record {
       goes = rw (p.1, p.2, r.0.0, r.0.1) (arguments_bad (length text) i.read (other text Comma l.kind l.start l.end c.loop-level-test.ensures) r.1);
       kept = kept_on s.kept c.loop-level.invariant.1;
@@ -70,10 +70,10 @@ arguments-returns-in-err-next-2 t c =
 pub arguments-returns : goal.arguments-returns
 unfolding arguments_done
 arguments-returns t c =
-    let s = c.in-ok-so-far.ensures in
+    let s = c.in_ok-so_far.ensures in
     let g = (carried_all c.args.functions.now s.kept c.loop-level.invariant.0).2 c.args.image.now (first_argument s.goes) in
     let i = g.through in
-    let r = c.in-ok-next-2.ensures in
+    let r = c.in_ok-next-2.ensures in
     record {
       goes = record {
         through = record {
@@ -87,12 +87,12 @@ arguments-returns t c =
       kept = kept_on s.kept c.loop-level.invariant.1;
     }
 
-pub atom-returns-in-ok-after : goal.atom-returns-in-ok-after
+pub atom-returns-in_ok-after-in-Number : goal.atom-returns-in_ok-after-in-Number
 unfolding number_read
-atom-returns-in-ok-after t c =
+atom-returns-in_ok-after-in-Number t c =
     let text = c.args.text.now in
     let l = c.args.here.now.look in
-    let a = c.in-ok-after.ensures in
+    let a = c.in_ok-after-in-Number.ensures in
     let d = known_token text l.start l.end c.in-Number.is a.0.token in
     record {
       goes = record {
@@ -105,9 +105,9 @@ atom-returns-in-ok-after t c =
 
 pub binding-expression-requires-2 : goal.binding-expression-requires-2
 binding-expression-requires-2 t c =
-    let e = c.in-ok-named.ensures in
-    let n = c.in-ok-equals.ensures in
-    let k = c.in-ok-within.ensures.kept in
+    let e = c.in_ok-named.ensures in
+    let n = c.in_ok-equals.ensures in
+    let k = c.in_ok-within.ensures.kept in
     let few : c.expression.new.scope.count < 40 = omega (arith, k.counted, c.requires.1.0.2, e.0) in
     let room : c.expression.new.scope.count < length c.expression.new.scope.names = omega (arith, k.scoped.2, few) in
     let inner : Known c.args.text.now c.args.functions.now c.declare.new.scope =
@@ -119,16 +119,16 @@ unfolding let_read
 binding-returns t c =
     let text = c.args.text.now in
     let l = c.args.here.now.look in
-    let e = c.in-ok-named.ensures in
-    let n = c.in-ok-equals.ensures in
-    let q = c.in-ok-value.ensures in
-    let v = c.in-ok-within.ensures.goes in
-    let k = c.in-ok-within.ensures.kept in
-    let w = c.in-ok-body.ensures in
-    let r = c.in-ok-last.ensures.goes in
+    let e = c.in_ok-named.ensures in
+    let n = c.in_ok-equals.ensures in
+    let q = c.in_ok-value.ensures in
+    let v = c.in_ok-within.ensures.goes in
+    let k = c.in_ok-within.ensures.kept in
+    let w = c.in_ok-body.ensures in
+    let r = c.in_ok-last.ensures.goes in
     let d = known_token text l.start l.end c.requires.1.1.1 e.1.token in
     let o = q.0.out ∙ (n.0.out ∙ e.1.out) in
-    let x = ident text c.in-ok-named.named.look in
+    let x = ident text c.in_ok-named.named.look in
     let room : c.expression.new.scope.count < length c.expression.new.scope.names = omega (arith, k.scoped.2, k.counted, c.requires.1.0.2, e.0) in
     let i = inner_env text c.args.functions.now c.args.scope.now c.expression.new.scope c.declare.new.scope _ k room c.declare.ensures.count c.declare.ensures.names in
     record {
@@ -139,24 +139,24 @@ binding-returns t c =
         read = let_read (length text) x d e.0 e.2 e.1.fit.1 n.0.token q.0.token (q.1 ∙ n.1) v.read w.0.token v.on.fit.1 w.1 r.read;
         made = made_let x (from o v.made) (from w.0.out (knowing i r.made)) c.emit.ensures.made c.emit.ensures.written c.word.ensures;
       };
-      kept = put_back _ k c.declare.ensures.count c.declare.ensures.names c.in-ok-last.ensures.kept c.drop-inner-2.ensures.count c.drop-inner-2.ensures.names;
+      kept = put_back _ k c.declare.ensures.count c.declare.ensures.names c.in_ok-last.ensures.kept c.drop-inner-2.ensures.count c.drop-inner-2.ensures.names;
     }
 
-pub binding-returns-in-err-last : goal.binding-returns-in-err-last
-binding-returns-in-err-last t c =
+pub binding-returns-in_err-last : goal.binding-returns-in_err-last
+binding-returns-in_err-last t c =
     let text = c.args.text.now in
     let l = c.args.here.now.look in
-    let e = c.in-ok-named.ensures in
-    let n = c.in-ok-equals.ensures in
-    let q = c.in-ok-value.ensures in
-    let v = c.in-ok-within.ensures.goes in
-    let w = c.in-ok-body.ensures in
+    let e = c.in_ok-named.ensures in
+    let n = c.in_ok-equals.ensures in
+    let q = c.in_ok-value.ensures in
+    let v = c.in_ok-within.ensures.goes in
+    let w = c.in_ok-body.ensures in
     let d = known_token text l.start l.end c.requires.1.1.1 e.1.token in
-    let x = ident text c.in-ok-named.named.look in
-    let p = err_from_is_err_and c.from-residual-in-err-last.result c.from-residual-in-err-last.ensures.1 in
+    let x = ident text c.in_ok-named.named.look in
+    let p = err_from_is_err_and c.from_residual-in_err-last.result c.from_residual-in_err-last.ensures.1 in
     record {
-      goes = rw (p.1, p.2) (let_bad (length text) x d e.0 e.2 e.1.fit.1 n.0.token q.0.token (q.1 ∙ n.1) v.read w.0.token v.on.fit.1 w.1 c.in-err-last.ensures.goes);
-      kept = put_back _ c.in-ok-within.ensures.kept c.declare.ensures.count c.declare.ensures.names c.in-err-last.ensures.kept c.drop-inner.ensures.count c.drop-inner.ensures.names;
+      goes = rw (p.1, p.2) (let_bad (length text) x d e.0 e.2 e.1.fit.1 n.0.token q.0.token (q.1 ∙ n.1) v.read w.0.token v.on.fit.1 w.1 c.in_err-last.ensures.goes);
+      kept = put_back _ c.in_ok-within.ensures.kept c.declare.ensures.count c.declare.ensures.names c.in_err-last.ensures.kept c.drop-inner.ensures.count c.drop-inner.ensures.names;
     }
 
 pub bracketed-returns : goal.bracketed-returns
@@ -164,8 +164,8 @@ unfolding bracket_read
 bracketed-returns t c =
     let text = c.args.text.now in
     let l = c.args.here.now.look in
-    let i = c.in-ok-inner.ensures in
-    let x = c.in-ok-within.ensures.goes in
+    let i = c.in_ok-inner.ensures in
+    let x = c.in_ok-within.ensures.goes in
     let d = known_token text l.start l.end c.requires.1.1.1 i.1.token in
     record {
       goes = MatchResult-weaker c.expect.result c.expect.ensures
@@ -176,37 +176,37 @@ bracketed-returns t c =
             made = made_group (to r.0.out (from i.1.out x.made));
           })
           (λ e r. rw (r.0.0, r.0.1) (bracket_bad (length text) d c.requires.0.1 i.0 i.2 x.read r.1));
-      kept = c.in-ok-within.ensures.kept;
+      kept = c.in_ok-within.ensures.kept;
     }
 
-pub choice-returns-in-err-other : goal.choice-returns-in-err-other
-choice-returns-in-err-other t c =
+pub choice-returns-in_err-other : goal.choice-returns-in_err-other
+choice-returns-in_err-other t c =
     let text = c.args.text.now in
     let l = c.args.here.now.look in
-    let e = c.in-ok-test.ensures in
-    let v = c.in-ok-then.ensures.goes in
-    let h = c.in-ok-first.ensures in
+    let e = c.in_ok-test.ensures in
+    let v = c.in_ok-then.ensures.goes in
+    let h = c.in_ok-first.ensures in
     let d = known_token text l.start l.end c.requires.1.1.1 e.1.token in
-    let p = err_from_is_err_and c.from-residual-in-err-other.result c.from-residual-in-err-other.ensures.1 in
+    let p = err_from_is_err_and c.from_residual-in_err-other.result c.from_residual-in_err-other.ensures.1 in
     record {
-      goes = rw (p.1, p.2) (ifp_first_bad (length text) d e.0 e.2 e.1.fit.1 v.read h.0.token v.on.fit.1 h.1 c.in-err-other.ensures.goes);
-      kept = kept_on c.in-ok-then.ensures.kept c.in-err-other.ensures.kept;
+      goes = rw (p.1, p.2) (ifp_first_bad (length text) d e.0 e.2 e.1.fit.1 v.read h.0.token v.on.fit.1 h.1 c.in_err-other.ensures.goes);
+      kept = kept_on c.in_ok-then.ensures.kept c.in_err-other.ensures.kept;
     }
 
-pub choice-returns-in-err-second : goal.choice-returns-in-err-second
-choice-returns-in-err-second t c =
+pub choice-returns-in_err-second : goal.choice-returns-in_err-second
+choice-returns-in_err-second t c =
     let text = c.args.text.now in
     let l = c.args.here.now.look in
-    let e = c.in-ok-test.ensures in
-    let v = c.in-ok-then.ensures.goes in
-    let h = c.in-ok-first.ensures in
-    let y = c.in-ok-other.ensures.goes in
-    let b = c.in-err-second.ensures in
+    let e = c.in_ok-test.ensures in
+    let v = c.in_ok-then.ensures.goes in
+    let h = c.in_ok-first.ensures in
+    let y = c.in_ok-other.ensures.goes in
+    let b = c.in_err-second.ensures in
     let d = known_token text l.start l.end c.requires.1.1.1 e.1.token in
-    let p = err_from_is_err_and c.from-residual-in-err-second.result c.from-residual-in-err-second.ensures.1 in
+    let p = err_from_is_err_and c.from_residual-in_err-second.result c.from_residual-in_err-second.ensures.1 in
     record {
       goes = rw (p.1, p.2, b.0.0, b.0.1) (ifp_else_bad (length text) d e.0 e.2 e.1.fit.1 v.read h.0.token v.on.fit.1 h.1 y.read b.1);
-      kept = kept_on c.in-ok-then.ensures.kept c.in-ok-other.ensures.kept;
+      kept = kept_on c.in_ok-then.ensures.kept c.in_ok-other.ensures.kept;
     }
 
 pub choice-returns : goal.choice-returns
@@ -214,14 +214,14 @@ unfolding ifp_read
 choice-returns t c =
     let text = c.args.text.now in
     let l = c.args.here.now.look in
-    let e = c.in-ok-test.ensures in
-    let v = c.in-ok-then.ensures.goes in
-    let h = c.in-ok-first.ensures in
-    let k₁ = c.in-ok-then.ensures.kept in
-    let k₂ = kept_on k₁ c.in-ok-other.ensures.kept in
-    let y = as_before c.args.functions.now k₁ c.in-ok-other.ensures.goes in
-    let w = c.in-ok-second.ensures in
-    let r = as_before c.args.functions.now k₂ c.in-ok-last.ensures.goes in
+    let e = c.in_ok-test.ensures in
+    let v = c.in_ok-then.ensures.goes in
+    let h = c.in_ok-first.ensures in
+    let k₁ = c.in_ok-then.ensures.kept in
+    let k₂ = kept_on k₁ c.in_ok-other.ensures.kept in
+    let y = as_before c.args.functions.now k₁ c.in_ok-other.ensures.goes in
+    let w = c.in_ok-second.ensures in
+    let r = as_before c.args.functions.now k₂ c.in_ok-last.ensures.goes in
     let d = known_token text l.start l.end c.requires.1.1.1 e.1.token in
     let o₁ = c.skip.ensures ∙ ap emitted h.0.out in
     let o₂ = c.skip-2.ensures ∙ ap emitted w.0.out in
@@ -233,23 +233,23 @@ choice-returns t c =
         read = ifp_read (length text) d e.0 e.2 e.1.fit.1 v.read h.0.token v.on.fit.1 h.1 y.read w.0.token y.on.fit.1 w.1 r.read;
         made = made_ifp (from e.1.out v.made) o₁ y.made o₂ c.put.ensures h.0.out c.word.ensures r.made c.put-2.ensures w.0.out c.word-2.ensures;
       };
-      kept = kept_on k₂ c.in-ok-last.ensures.kept;
+      kept = kept_on k₂ c.in_ok-last.ensures.kept;
     }
 
-pub choice-returns-in-err-last : goal.choice-returns-in-err-last
-choice-returns-in-err-last t c =
+pub choice-returns-in_err-last : goal.choice-returns-in_err-last
+choice-returns-in_err-last t c =
     let text = c.args.text.now in
     let l = c.args.here.now.look in
-    let e = c.in-ok-test.ensures in
-    let v = c.in-ok-then.ensures.goes in
-    let h = c.in-ok-first.ensures in
-    let y = c.in-ok-other.ensures.goes in
-    let w = c.in-ok-second.ensures in
+    let e = c.in_ok-test.ensures in
+    let v = c.in_ok-then.ensures.goes in
+    let h = c.in_ok-first.ensures in
+    let y = c.in_ok-other.ensures.goes in
+    let w = c.in_ok-second.ensures in
     let d = known_token text l.start l.end c.requires.1.1.1 e.1.token in
-    let p = err_from_is_err_and c.from-residual-in-err-last.result c.from-residual-in-err-last.ensures.1 in
+    let p = err_from_is_err_and c.from_residual-in_err-last.result c.from_residual-in_err-last.ensures.1 in
     record {
-      goes = rw (p.1, p.2) (ifp_bad (length text) d e.0 e.2 e.1.fit.1 v.read h.0.token v.on.fit.1 h.1 y.read w.0.token y.on.fit.1 w.1 c.in-err-last.ensures.goes);
-      kept = kept_on (kept_on c.in-ok-then.ensures.kept c.in-ok-other.ensures.kept) c.in-err-last.ensures.kept;
+      goes = rw (p.1, p.2) (ifp_bad (length text) d e.0 e.2 e.1.fit.1 v.read h.0.token v.on.fit.1 h.1 y.read w.0.token y.on.fit.1 w.1 c.in_err-last.ensures.goes);
+      kept = kept_on (kept_on c.in_ok-then.ensures.kept c.in_ok-other.ensures.kept) c.in_err-last.ensures.kept;
     }
 
 pub expression-returns-else-is-2 : goal.expression-returns-else-is-2
@@ -267,15 +267,15 @@ expression-returns-else-is-2 t c =
       kept = c.sum.ensures.kept;
     }
 
-pub named-returns-in-ok-given : goal.named-returns-in-ok-given
+pub named-returns-in_ok-given : goal.named-returns-in_ok-given
 unfolding call_read
-named-returns-in-ok-given t c =
+named-returns-in_ok-given t c =
     let text = c.args.text.now in
     let l = c.args.here.now.look in
-    let a = c.in-ok-after.ensures in
-    let m = c.in-ok-after.after.look in
-    let i = c.in-ok-inner.ensures in
-    let g = c.in-ok-given.ensures.goes in
+    let a = c.in_ok-after.ensures in
+    let m = c.in_ok-after.after.look in
+    let i = c.in_ok-inner.ensures in
+    let g = c.in_ok-given.ensures.goes in
     let r = g.through in
     let d = known_token text l.start l.end c.requires.1.1.1 a.0.token in
     let e = known_token text m.start m.end c.if-is.ensures i.1.token in
@@ -287,7 +287,7 @@ named-returns-in-ok-given t c =
         read = call_read (length text) _ d a.1 a.0.fit.1 e i.0 i.2 r.read;
         made = made_call (ident text l) (all_from o r.made) g.counted c.call-out.ensures.made c.call-out.ensures.written;
       };
-      kept = c.in-ok-given.ensures.kept;
+      kept = c.in_ok-given.ensures.kept;
     }
 
 pub named-returns-else-is : goal.named-returns-else-is
@@ -295,8 +295,8 @@ unfolding name_read
 named-returns-else-is t c =
     let text = c.args.text.now in
     let l = c.args.here.now.look in
-    let a = c.in-ok-after.ensures in
-    let m = c.in-ok-after.after.look in
+    let a = c.in_ok-after.ensures in
+    let m = c.in_ok-after.after.look in
     let d = known_token text l.start l.end c.requires.1.1.1 a.0.token in
     record {
       goes = record {
@@ -309,7 +309,7 @@ named-returns-else-is t c =
 
 pub product-loop-level-init : goal.product-loop-level-init
 product-loop-level-init t c =
-    let r = c.in-ok-so-far.ensures in
+    let r = c.in_ok-so_far.ensures in
     ((r.goes.on, λ m i. i), kept_here r.kept.scoped)
 
 pub product-loop-level-preserved : goal.product-loop-level-preserved
@@ -319,8 +319,8 @@ product-loop-level-preserved t c =
     let l = c.loop-level.so_far.look in
     let j = c.loop-level.invariant.0 in
     let o = c.loop-level-test.ensures in
-    let n = c.in-ok-right.ensures in
-    let r = as_before c.args.functions.now c.loop-level.invariant.1 c.in-ok-read.ensures.goes in
+    let n = c.in_ok-right.ensures in
+    let r = as_before c.args.functions.now c.loop-level.invariant.1 c.in_ok-read.ensures.goes in
     let on = further c.requires.0 r.on.fit.0 r.on.fit.1 r.on.fit.3 (omega (arith, j.0.far, n.0.far, r.on.far)) (omega (arith, j.0.more, n.1, r.on.more))
     (omega (arith, j.0.slow, n.1, at_of n.0.out, r.on.slow, at_of c.emit.ensures.made)) in (
       (
@@ -333,52 +333,52 @@ product-loop-level-preserved t c =
               made = made_op o.0 i.made (from n.0.out r.made) c.emit.ensures.made c.emit.ensures.written (c.operator-joining.ensures o.0 o.1);
             },
       ),
-      kept_on c.loop-level.invariant.1 c.in-ok-read.ensures.kept,
+      kept_on c.loop-level.invariant.1 c.in_ok-read.ensures.kept,
     )
 
 pub product-returns : goal.product-returns
 unfolding product_done
 product-returns t c =
-    let s = c.in-ok-so-far.ensures in
+    let s = c.in_ok-so_far.ensures in
     let text = c.args.text.now in
     let l = c.loop-level.so_far.look in
     let i = (carried c.args.functions.now s.kept c.loop-level.invariant.0).1 c.args.image.now (first_factor s.goes) in
     record {
-      goes = record { on = i.on; read = product_done (length text) i.read (not_multiplicative (length text) text l.kind l.start l.end c.loop-level-test.ensures); made = i.made; keeps = search rules; rests = λ h. search rules };
+      goes = record { on = i.on; read = product_done (length text) i.read (not_multiplicative (length text) text l.kind l.start l.end c.loop-level-test.ensures); made = i.made };
       kept = kept_on s.kept c.loop-level.invariant.1;
     }
 
 pub sum-loop-level-init : goal.sum-loop-level-init
 sum-loop-level-init t c =
-    let r = c.in-ok-so-far.ensures in
+    let r = c.in_ok-so_far.ensures in
     ((r.goes.on, λ m i. i), kept_here r.kept.scoped)
 
-pub sum-returns-in-err-right : goal.sum-returns-in-err-right
-sum-returns-in-err-right t c =
-    let s = c.in-ok-so-far.ensures in
+pub sum-returns-in_err-right : goal.sum-returns-in_err-right
+sum-returns-in_err-right t c =
+    let s = c.in_ok-so_far.ensures in
     let text = c.args.text.now in
     let l = c.loop-level.so_far.look in
     let i = (carried c.args.functions.now s.kept c.loop-level.invariant.0).1 c.args.image.now (first_term s.goes) in
     let o = c.loop-level-test.ensures in
-    let b = c.in-err-right.ensures in
-    let p = err_from_is_err_and c.from-residual-in-err-right.result c.from-residual-in-err-right.ensures.1 in
+    let b = c.in_err-right.ensures in
+    let p = err_from_is_err_and c.from_residual-in_err-right.result c.from_residual-in_err-right.ensures.1 in
     record {
       goes = rw (p.1, p.2, b.1, b.2) (sum_full (length text) i.read (known_ahead text l.start l.end o.1) o.2 b.0);
       kept = kept_on s.kept c.loop-level.invariant.1;
     }
 
-pub sum-returns-in-err-read : goal.sum-returns-in-err-read
-sum-returns-in-err-read t c =
-    let s = c.in-ok-so-far.ensures in
+pub sum-returns-in_err-read : goal.sum-returns-in_err-read
+sum-returns-in_err-read t c =
+    let s = c.in_ok-so_far.ensures in
     let text = c.args.text.now in
     let l = c.loop-level.so_far.look in
     let i = (carried c.args.functions.now s.kept c.loop-level.invariant.0).1 c.args.image.now (first_term s.goes) in
     let o = c.loop-level-test.ensures in
-    let n = c.in-ok-right.ensures in
-    let p = err_from_is_err_and c.from-residual-in-err-read.result c.from-residual-in-err-read.ensures.1 in
+    let n = c.in_ok-right.ensures in
+    let p = err_from_is_err_and c.from_residual-in_err-read.result c.from_residual-in_err-read.ensures.1 in
     record {
-      goes = rw (p.1, p.2) (sum_more_bad (length text) i.read (known_token text l.start l.end o.1 n.0.token) o.2 n.1 n.0.fit.1 c.in-err-read.ensures.goes);
-      kept = kept_on (kept_on s.kept c.loop-level.invariant.1) c.in-err-read.ensures.kept;
+      goes = rw (p.1, p.2) (sum_more_bad (length text) i.read (known_token text l.start l.end o.1 n.0.token) o.2 n.1 n.0.fit.1 c.in_err-read.ensures.goes);
+      kept = kept_on (kept_on s.kept c.loop-level.invariant.1) c.in_err-read.ensures.kept;
     }
 
 pub sum-loop-level-preserved : goal.sum-loop-level-preserved
@@ -388,8 +388,8 @@ sum-loop-level-preserved t c =
     let l = c.loop-level.so_far.look in
     let j = c.loop-level.invariant.0 in
     let o = c.loop-level-test.ensures in
-    let n = c.in-ok-right.ensures in
-    let r = as_before c.args.functions.now c.loop-level.invariant.1 c.in-ok-read.ensures.goes in
+    let n = c.in_ok-right.ensures in
+    let r = as_before c.args.functions.now c.loop-level.invariant.1 c.in_ok-read.ensures.goes in
     let on = further c.requires.0 r.on.fit.0 r.on.fit.1 r.on.fit.3 (omega (arith, j.0.far, n.0.far, r.on.far)) (omega (arith, j.0.more, n.1, r.on.more))
     (omega (arith, j.0.slow, n.1, at_of n.0.out, r.on.slow, at_of c.emit.ensures.made)) in (
       (
@@ -402,45 +402,45 @@ sum-loop-level-preserved t c =
               made = made_op o.0 i.made (from n.0.out r.made) c.emit.ensures.made c.emit.ensures.written (c.operator-joining.ensures o.0 o.1);
             },
       ),
-      kept_on c.loop-level.invariant.1 c.in-ok-read.ensures.kept,
+      kept_on c.loop-level.invariant.1 c.in_ok-read.ensures.kept,
     )
 
 pub sum-returns : goal.sum-returns
 unfolding sum_done
 sum-returns t c =
-    let s = c.in-ok-so-far.ensures in
+    let s = c.in_ok-so_far.ensures in
     let text = c.args.text.now in
     let l = c.loop-level.so_far.look in
     let i = (carried c.args.functions.now s.kept c.loop-level.invariant.0).1 c.args.image.now (first_term s.goes) in
     record {
-      goes = record { on = i.on; read = sum_done (length text) i.read (not_additive (length text) text l.kind l.start l.end c.loop-level-test.ensures); made = i.made; keeps = search rules; rests = λ h. search rules };
+      goes = record { on = i.on; read = sum_done (length text) i.read (not_additive (length text) text l.kind l.start l.end c.loop-level-test.ensures); made = i.made };
       kept = kept_on s.kept c.loop-level.invariant.1;
     }
 
-pub product-returns-in-err-right : goal.product-returns-in-err-right
-product-returns-in-err-right t c =
-    let s = c.in-ok-so-far.ensures in
+pub product-returns-in_err-right : goal.product-returns-in_err-right
+product-returns-in_err-right t c =
+    let s = c.in_ok-so_far.ensures in
     let text = c.args.text.now in
     let l = c.loop-level.so_far.look in
     let i = (carried c.args.functions.now s.kept c.loop-level.invariant.0).1 c.args.image.now (first_factor s.goes) in
     let o = c.loop-level-test.ensures in
-    let b = c.in-err-right.ensures in
-    let p = err_from_is_err_and c.from-residual-in-err-right.result c.from-residual-in-err-right.ensures.1 in
+    let b = c.in_err-right.ensures in
+    let p = err_from_is_err_and c.from_residual-in_err-right.result c.from_residual-in_err-right.ensures.1 in
     record {
       goes = rw (p.1, p.2, b.1, b.2) (product_full (length text) i.read (known_ahead text l.start l.end o.1) o.2 b.0);
       kept = kept_on s.kept c.loop-level.invariant.1;
     }
 
-pub product-returns-in-err-read : goal.product-returns-in-err-read
-product-returns-in-err-read t c =
-    let s = c.in-ok-so-far.ensures in
+pub product-returns-in_err-read : goal.product-returns-in_err-read
+product-returns-in_err-read t c =
+    let s = c.in_ok-so_far.ensures in
     let text = c.args.text.now in
     let l = c.loop-level.so_far.look in
     let i = (carried c.args.functions.now s.kept c.loop-level.invariant.0).1 c.args.image.now (first_factor s.goes) in
     let o = c.loop-level-test.ensures in
-    let n = c.in-ok-right.ensures in
-    let p = err_from_is_err_and c.from-residual-in-err-read.result c.from-residual-in-err-read.ensures.1 in
+    let n = c.in_ok-right.ensures in
+    let p = err_from_is_err_and c.from_residual-in_err-read.result c.from_residual-in_err-read.ensures.1 in
     record {
-      goes = rw (p.1, p.2) (product_more_bad (length text) i.read (known_token text l.start l.end o.1 n.0.token) o.2 n.1 n.0.fit.1 c.in-err-read.ensures.goes);
-      kept = kept_on (kept_on s.kept c.loop-level.invariant.1) c.in-err-read.ensures.kept;
+      goes = rw (p.1, p.2) (product_more_bad (length text) i.read (known_token text l.start l.end o.1 n.0.token) o.2 n.1 n.0.fit.1 c.in_err-read.ensures.goes);
+      kept = kept_on (kept_on s.kept c.loop-level.invariant.1) c.in_err-read.ensures.kept;
     }

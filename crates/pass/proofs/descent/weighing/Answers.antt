@@ -1,4 +1,4 @@
-use Rattle.std.proofs.Common.{◌≡◌, ◌<◌, List, ◌∷◌, length, refl, ap, ◌∙◌, arith}
+use Rattle.std.proofs.Common.{◌<◌, List, ◌∷◌, length, refl, ap, ◌∙◌, arith}
 use Rattle.recipe.specs.Tokens.{Literal, Token, Number}
 use Rattle.lexer.specs.Lexed.{then_from}
 use Rattle.pass.proofs.Steps.{known_token, weigh_read}
@@ -11,8 +11,8 @@ unfolding weigh_read
 returns-in-Number c =
     let text = c.args.text.now in
     let l = c.args.here.now.look in
-    let a = c.in-ok-after.ensures in
-    let m = c.in-ok-after.after.look in
+    let a = c.in_ok-after.ensures in
+    let m = c.in_ok-after.after.look in
     let s = c.step.ensures in
     let d = known_token text l.start l.end c.requires.1.1.1 a.0.token in
     let h : m.start < m.end = rw c.in-Number.is at a.0.fit.0.2 in

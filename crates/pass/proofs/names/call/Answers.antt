@@ -1,4 +1,4 @@
-use Rattle.std.proofs.Common.{◌≡◌, ℕ, ◌*◌, set, sym, refl, ap, ◌∙◌, add-zero}
+use Rattle.std.proofs.Common.{ℕ, ◌*◌, set, sym, ap, ◌∙◌, add-zero}
 use mathlib.Core.Option as opt
 use Rattle.std.specs.List.{between}
 use Rattle.recipe.specs.Names.{call_faults}

@@ -1,4 +1,4 @@
-use Rattle.std.proofs.Common.{◌≡◌, set, is_some, sym, refl, ap, ◌∙◌}
+use Rattle.std.proofs.Common.{set, is_some, sym, ap, ◌∙◌}
 use Rattle.std.specs.List.{between}
 use Rattle.recipe.specs.Names.{fault_unless}
 use Rattle.recipe.specs.Image.{VAR}

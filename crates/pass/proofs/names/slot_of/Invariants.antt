@@ -1,4 +1,4 @@
-use Rattle.std.proofs.Common.{◌≡◌, ◌≤◌, length}
+use Rattle.std.proofs.Common.{◌≡◌, ◌≤◌}
 use Rattle.std.specs.List.{between}
 use Rattle.pass.specs.Known.{in_force, slot_in}
 use Rattle.pass.proofs.names.slot_of.Given as goal

@@ -1,4 +1,4 @@
-use Rattle.std.proofs.Common.{◌≡◌, get_or, ap, arith, below_more}
+use Rattle.std.proofs.Common.{ap, arith, below_more}
 use Rattle.std.proofs.lemmas.List.{get_or_default}
 use Rattle.pass.specs.declared.names.Function.{Function}
 use Rattle.pass.specs.Known.{no_function}

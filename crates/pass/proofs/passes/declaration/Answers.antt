@@ -5,23 +5,23 @@ use Rattle.pass.specs.Reads.{DeclarationsOn}
 use Rattle.pass.proofs.Tables.{past_name, added_on}
 use Rattle.pass.proofs.passes.declaration.Goals as goal
 
-pub returns-in-err-inside : goal.returns-in-err-inside
-returns-in-err-inside c =
-    let q = c.in-ok-after.ensures in
-    let p = err_from_is_err_and c.from-residual-in-err-inside.result c.from-residual-in-err-inside.ensures.1 in
-    rw (p.1, p.2) (inr (_, past_name c.args.text.now c.args.so-far.now q.0 q.1 q.2 c.is-new-fresh.ensures c.unless.ensures, c.in-err-inside.ensures))
+pub returns-in_err-inside : goal.returns-in_err-inside
+returns-in_err-inside c =
+    let q = c.in_ok-after.ensures in
+    let p = err_from_is_err_and c.from_residual-in_err-inside.result c.from_residual-in_err-inside.ensures.1 in
+    rw (p.1, p.2) (inr (_, past_name c.args.text.now c.args.so_far.now q.0 q.1 q.2 c.is_new-fresh.ensures c.unless.ensures, c.in_err-inside.ensures))
 
 pub returns : goal.returns
 returns c =
     let text = c.args.text.now in
-    let h = c.args.so-far.now in
-    let q = c.in-ok-after.ensures in
-    let e = c.in-ok-inside.ensures in
-    let w = c.with-function.ensures in
-    let n = past_name text h q.0 q.1 q.2 c.is-new-fresh.ensures c.unless.ensures in
+    let h = c.args.so_far.now in
+    let q = c.in_ok-after.ensures in
+    let e = c.in_ok-inside.ensures in
+    let w = c.with_function.ensures in
+    let n = past_name text h q.0 q.1 q.2 c.is_new-fresh.ensures c.unless.ensures in
     record {
       inside = _;
-      declared = c.in-ok-inside.inside;
+      declared = c.in_ok-inside.inside;
       named = n;
       headed = e;
       is = w;

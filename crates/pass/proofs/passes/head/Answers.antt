@@ -1,4 +1,4 @@
-use Rattle.std.proofs.Common.{◌≡◌, ℕ, ◌+◌, length, sym, refl, ap, ◌∙◌, arith, rules}
+use Rattle.std.proofs.Common.{◌+◌, length, sym, refl, ap, ◌∙◌, arith}
 use Rattle.recipe.specs.Grammar.{one_only, and_then}
 use Rattle.pass.specs.Known.{ident, env}
 use Rattle.pass.proofs.Steps.{names_first, names_more, head_read}
@@ -6,14 +6,14 @@ use Rattle.pass.proofs.Makes.{at_of}
 use Rattle.pass.proofs.Heads.{all_size, parameters_first, parameters_more, made_head}
 use Rattle.pass.proofs.passes.head.Goals as goal
 
-pub loop-so-far-init : goal.loop-so-far-init
+pub loop-so_far-init : goal.loop-so_far-init
 unfolding names_first
-loop-so-far-init c =
+loop-so_far-init c =
     let text = c.args.text.now in
-    let x = ident text c.in-ok-first.first.look in
-    let o = c.in-ok-first.ensures in
-    let k = c.no-names-empty.ensures in
-    let n = c.in-ok-so-far.ensures in
+    let x = ident text c.in_ok-first.first.look in
+    let o = c.in_ok-first.ensures in
+    let k = c.no_names-empty.ensures in
+    let n = c.in_ok-so_far.ensures in
     record {
       far = omega (arith, o.0.far, n.far);
       fit = n.fit;
@@ -21,17 +21,17 @@ loop-so-far-init c =
       few = omega (arith, n.counted, k.0);
       scoped = n.scoped;
       read = record { names = one_only x; sized = omega (arith, n.counted, k.0); goes = (names_first (length text) x o.0.token o.1 n.token n.same).goes };
-      made = parameters_first text _ _ _ c.no-names-empty.result _ x k.0 o.0.out n.out n.known;
+      made = parameters_first text _ _ _ c.no_names-empty.result _ x k.0 o.0.out n.out n.known;
     }
 
-pub loop-so-far-preserved : goal.loop-so-far-preserved
+pub loop-so_far-preserved : goal.loop-so_far-preserved
 unfolding names_more
-loop-so-far-preserved c =
+loop-so_far-preserved c =
     let text = c.args.text.now in
-    let x = ident text c.in-ok-next.next.look in
-    let i = c.loop-so-far.invariant in
-    let q = c.in-ok-next.ensures in
-    let n = c.in-ok-so-far-2.ensures in
+    let x = ident text c.in_ok-next.next.look in
+    let i = c.loop-so_far.invariant in
+    let q = c.in_ok-next.ensures in
+    let n = c.in_ok-so_far-2.ensures in
     record {
       far = omega (arith, i.far, q.0.far, n.far);
       fit = n.fit;
@@ -39,17 +39,17 @@ loop-so-far-preserved c =
       few = omega (arith, n.few, n.counted);
       scoped = n.scoped;
       read = record { names = and_then i.read.names x; sized = ap (λ y. y + 1) i.read.sized ∙ sym n.counted; goes = (names_more (length text) x i.read q.0.token q.1 n.token n.same n.few).goes };
-      made = parameters_more text _ _ _ _ c.loop-so-far.so_far.scope _ i.read.names x (sym i.read.sized) i.made q.0.out n.out n.known;
+      made = parameters_more text _ _ _ _ c.loop-so_far.so_far.scope _ i.read.names x (sym i.read.sized) i.made q.0.out n.out n.known;
     }
 
 pub returns : goal.returns
 unfolding head_read
 returns c =
     let text = c.args.text.now in
-    let i = c.loop-so-far.invariant in
-    let w = c.in-ok-close.ensures in
-    let q = c.in-ok-equals.ensures in
-    let r = c.in-ok-last.ensures.goes in
+    let i = c.loop-so_far.invariant in
+    let w = c.in_ok-close.ensures in
+    let q = c.in_ok-equals.ensures in
+    let r = c.in_ok-last.ensures.goes in
     let o = q.0.out ∙ w.0.out in
     let fn = at_of c.emit.ensures.made in
     let back = at_of c.emit-2.ensures.made in
@@ -59,7 +59,7 @@ returns c =
       slow = omega (arith, i.same, w.1, q.1, at_of o, at_of i.made.out, fn, back, r.on.slow);
       fit = (r.on.fit.0, r.on.fit.1, omega (arith, c.requires.1.0, i.same, w.1, q.1, at_of o, at_of i.made.out, fn, back, r.on.slow), r.on.fit.3);
       read = record { names = i.read.names; tree = r.read.tree; goes = (head_read (length text) i.read w.0.token q.0.token i.fit.1 (q.1 ∙ w.1) r.read).goes };
-      made = made_head text (env text c.args.functions.now c.loop-so-far.so_far.scope) c.args.image.now i.read.names c.loop-so-far.so_far.scope c.loop-so-far.so_far.scope.count r.read.tree
+      made = made_head text (env text c.args.functions.now c.loop-so_far.so_far.scope) c.args.image.now i.read.names c.loop-so_far.so_far.scope c.loop-so_far.so_far.scope.count r.read.tree
           i.made o refl n c.emit.ensures.made c.emit.ensures.written c.word.ensures r.made c.emit-2.ensures.made c.emit-2.ensures.written c.word-2.ensures;
       counted = n;
     }

@@ -10,5 +10,5 @@ not_not false = refl
 pub returns : goal.returns
 returns c =
     let text = c.args.text.now in
-    let h = c.args.so-far.now in
-    sym (ap not (among_first text (take h.count h.table) (ident text c.args.name).name ∙ (ap is_some (sym c.function-of.ensures) ∙ c.is-none.ensures)) ∙ not_not c.is-none.result)
+    let h = c.args.so_far.now in
+    sym (ap not (among_first text (take h.count h.table) (ident text c.args.name).name ∙ (ap is_some (sym c.function_of.ensures) ∙ c.is_none.ensures)) ∙ not_not c.is_none.result)

@@ -1,4 +1,4 @@
-use Rattle.std.proofs.Common.{◌≡◌, ◌<◌, length, is_some, sym, refl, ap, ◌∙◌, arith}
+use Rattle.std.proofs.Common.{◌<◌, length, is_some, sym, ap, ◌∙◌, arith}
 use Rattle.pass.specs.declared.cursor.Output.{Output}
 use Rattle.pass.specs.Known.{ident, force, spelled}
 use Rattle.pass.specs.Outputs.{faulted, again}
@@ -11,7 +11,7 @@ returns-then-scope-lt8 c =
     let text = c.args.text.now in
     let scope = c.args.scope.now in
     let l = c.args.here.look in
-    let a = c.in-ok-after.ensures in
+    let a = c.in_ok-after.ensures in
     let room : scope.count < length scope.names = omega (arith, c.requires.1.0.2, c.if-scope-lt8.true) in
     let w = c.with-inner.ensures in
     record {
@@ -20,7 +20,7 @@ returns-then-scope-lt8 c =
       fit = (a.0.fit.0, a.0.fit.1, omega (arith, at_of c.unless-out.ensures, a.0.fit.2), a.0.fit.3);
       token = a.0.token;
       same = a.1;
-      out = c.unless-out.ensures ∙ (ap (faulted c.in-ok-after.after.out) (again_slot (force text scope) (ident text l) c.is-none-fresh.result (ap is_some (sym c.slot-of.ensures) ∙ c.is-none-fresh.ensures))
+      out = c.unless-out.ensures ∙ (ap (faulted c.in_ok-after.after.out) (again_slot (force text scope) (ident text l) c.is_none-fresh.result (ap is_some (sym c.slot_of.ensures) ∙ c.is_none-fresh.ensures))
           ∙ ap (λ (o : Output). faulted o (again (spelled (force text scope)) (ident text l))) a.0.out);
       counted = w.0;
       known = inner_force text scope c.with-inner.result _ room w.0 w.1;

@@ -11,37 +11,37 @@ use Rattle.pass.proofs.Tables.{frames_over}
 use Rattle.pass.proofs.Recipes.{main_made}
 use Rattle.pass.proofs.passes.run.Goals as goal
 
-pub returns-in-err-within : goal.returns-in-err-within
-returns-in-err-within c =
-    let g = c.in-ok-heads.ensures in
-    let b = c.in-err-within.ensures in
-    let p = err_from_is_err_and c.from-residual-in-err-within.result c.from-residual-in-err-within.ensures.1 in
+pub returns-in_err-within : goal.returns-in_err-within
+returns-in_err-within c =
+    let g = c.in_ok-heads.ensures in
+    let b = c.in_err-within.ensures in
+    let p = err_from_is_err_and c.from_residual-in_err-within.result c.from_residual-in_err-within.ensures.1 in
     rw (p.1, p.2, b.0.0, b.0.1) (declarations_bad (length c.args.text.now) g.1.read g.2 b.1)
 
-pub returns-in-err-last : goal.returns-in-err-last
-returns-in-err-last c =
-    let g = c.in-ok-heads.ensures in
-    let w = c.in-ok-within.ensures in
-    let p = err_from_is_err_and c.from-residual-in-err-last.result c.from-residual-in-err-last.ensures.1 in
-    rw (p.1, p.2) (main_bad (length c.args.text.now) g.1.read w.0.token g.0.fit.1 w.1 c.in-err-last.ensures.goes)
+pub returns-in_err-last : goal.returns-in_err-last
+returns-in_err-last c =
+    let g = c.in_ok-heads.ensures in
+    let w = c.in_ok-within.ensures in
+    let p = err_from_is_err_and c.from_residual-in_err-last.result c.from_residual-in_err-last.ensures.1 in
+    rw (p.1, p.2) (main_bad (length c.args.text.now) g.1.read w.0.token g.0.fit.1 w.1 c.in_err-last.ensures.goes)
 
 pub returns-in-End : goal.returns-in-End
 unfolding main_read
 returns-in-End c =
     let text = c.args.text.now in
-    let h = c.in-ok-heads.heads in
-    let g = c.in-ok-heads.ensures in
-    let w = c.in-ok-within.ensures in
-    let r = c.in-ok-last.ensures.goes in
-    let l = c.in-ok-last.last.look in
+    let h = c.in_ok-heads.heads in
+    let g = c.in_ok-heads.ensures in
+    let w = c.in_ok-within.ensures in
+    let r = c.in_ok-last.ensures.goes in
+    let l = c.in_ok-last.last.look in
     let d = g.1 in
     let ds = all d.read.declared in
     let e = r.read.tree in
-    let scope = c.no-names-empty.result in
-    let v = ap (λ k. record { signatures = signed text c.args.functions.now; entries = entered text c.args.functions.now; in_scope = in_force text scope.names k }) c.no-names-empty.ensures.0 in
+    let scope = c.no_names-empty.result in
+    let v = ap (λ k. record { signatures = signed text c.args.functions.now; entries = entered text c.args.functions.now; in_scope = in_force text scope.names k }) c.no_names-empty.ensures.0 in
     let m = main_made text c.args.base c.args.image.now ds e scope v refl refl (fault_of w.0.out ∙ d.made.fault) d.made.written
     r.made c.emit-out.ensures.made c.emit-out.ensures.written c.word.ensures in
-    subst (λ (p : Pass). Passed text c.args.functions.now c.args.base c.args.image.now p c.emit-out.new.image) (sym c.pass-of.ensures) (record {
+    subst (λ (p : Pass). Passed text c.args.functions.now c.args.base c.args.image.now p c.emit-out.new.image) (sym c.pass_of.ensures) (record {
       declared = d.read.declared;
       at_in = h.next.look.start;
       main = e;
