@@ -1,5 +1,5 @@
 -- The words of a tree do what the tree means.
-use Rattle.std.proofs.Common.{◌≡◌, ℕ, suc, ◌+◌, ◌-◌, ◌<◌, ◌≤◌, Bool, true, false, cond, ◌||◌, eqb, leb, List, [], ◌∷◌, ◌++◌, length, get_or, pos, sym, refl, ap, ◌∙◌, subst, append_assoc, arith, length-append}
+use Rattle.std.proofs.Common.{◌≡◌, ℕ, suc, ◌+◌, ◌<◌, ◌≤◌, Bool, true, false, cond, ◌||◌, eqb, leb, List, [], ◌∷◌, ◌++◌, length, get_or, pos, sym, refl, ap, ◌∙◌, subst, append_assoc, arith, length-append}
 use mathlib.Core.Option.{Option, none, some}
 use lib.ListN.{get_or-append}
 use lib.Seq.{get_or_at}
@@ -14,7 +14,7 @@ use Rattle.recipe.specs.Names as names
 use Rattle.recipe.specs.Frames.{need, needs}
 use Rattle.recipe.specs.Image.{CALL, past, pasts, Bound, find}
 use Rattle.machine.proofs.Decodes.{taken_apart, operators}
-use Rattle.meaning.specs.Meaning.{Outcome, faults, after, one_more, chosen, Valued, worth_of, value, values}
+use Rattle.meaning.specs.Meaning.{Outcome, after, one_more, chosen, Valued, worth_of, value, values}
 use Rattle.meaning.proofs.Shape.{Saved, Here, spot, Reach, Does, Yields, yields_any, yields_after, does_after, does_after_with, does_later, does_nothing}
 use Rattle.meaning.proofs.Steps.{WordAt, go_num, go_var, do_weigh, do_op, go_out, go_unless, go_go}
 use Rattle.meaning.proofs.Placing.{Holds, Holdss}
