@@ -147,7 +147,7 @@ impl Run {
         requires room { 4128 ≤ length stack.old }
         requires table { 128 ≤ length returns.old }
         ensures does { scene (course_of result).run stack.new returns.new
-            ≡ granted frame_room rules (held_at held.now) self.count image.now grant (scene (course_of self).run stack.old returns.old) }
+            ≡ granted frame_room N.Arithmetic.rules (held_at held.now) self.count image.now grant (scene (course_of self).run stack.old returns.old) }
         ensures count { result.count ≡ self.count }
     {
         let most = lesser(self.allowance - self.used, grant);
@@ -174,7 +174,7 @@ impl Run {
         grant: u64,
     ) -> Option<(Status, u64)>
         ensures { left result (course_of self.new) stack.new returns.new
-            ≡ advanced rules (held_at held.now) image.now grant (course_of self.old) stack.old returns.old }
+            ≡ advanced N.Arithmetic.rules (held_at held.now) image.now grant (course_of self.old) stack.old returns.old }
     {
         if too_short(self.count, image, stack, returns) {
             return None;

@@ -1,6 +1,6 @@
 // One step of a run.
 ghost use Rattle.std.specs.Prelude.{◌≡◌, ◌≤◌, length};
-ghost use Rattle.machine.specs.Steps.{Sound, frame_room, stepped, step as step_of_lem};
+ghost use Rattle.machine.specs.Steps.{Sound, frame_room, stepped, step as step_of};
 ghost use Rattle.engine.specs.Frames.{held_at};
 
 use crate::words::{Held, IMPOSSIBLE, carry_out};
@@ -21,7 +21,7 @@ pub(crate) fn step<N: Arithmetic>(
     requires room { 4128 ≤ length stack.old }
     requires table { 128 ≤ length returns.old }
     ensures does { stepped result m.new stack.new returns.new
-        ≡ step_of_lem frame_room rules (held_at held.now) count image.now m.old stack.old returns.old }
+        ≡ step_of frame_room N.Arithmetic.rules (held_at held.now) count image.now m.old stack.old returns.old }
     ensures sound { Sound frame_room m.new }
 {
     if m.index >= count {

@@ -28,7 +28,7 @@ pub(crate) const IMPOSSIBLE: Fault = Fault::OfEngine(EngineFault::Impossible);
 fn push<N: Arithmetic>(m: &mut Registers, frame: &mut [N], value: N) -> Result<Progress, Fault>
     requires { (m.old.index < 4096) × (frame_room ≤ length frame.old) }
     ensures { (t : List Entry) → stepped result m.new frame.new t
-        ≡ framed rules m.old frame.old t (pushed frame_room m.old value) }
+        ≡ framed N.Arithmetic.rules m.old frame.old t (pushed frame_room m.old value) }
 {
     if m.len >= ROOM {
         return Err(IMPOSSIBLE);
@@ -42,7 +42,7 @@ fn push<N: Arithmetic>(m: &mut Registers, frame: &mut [N], value: N) -> Result<P
 fn number<N: Arithmetic>(m: &mut Registers, frame: &mut [N], n: u32) -> Result<Progress, Fault>
     requires { (m.old.index < 4096) × ((frame_room ≤ length frame.old) × (n < 268435456)) }
     ensures { (h : ℕ → Reading) (k : ℕ) (t : List Entry) → stepped result m.new frame.new t
-        ≡ framed rules m.old frame.old t (plan frame_room rules h k m.old frame.old t (Num n)) }
+        ≡ framed N.Arithmetic.rules m.old frame.old t (plan frame_room N.Arithmetic.rules h k m.old frame.old t (Num n)) }
 {
     push(m, frame, N::whole(Weight::new(n as i32).unwrap()))
 }
@@ -54,7 +54,7 @@ fn variable<N: Arithmetic>(
 ) -> Result<Progress, Fault>
     requires { (m.old.index < 4096) × ((frame_room ≤ length frame.old) × (m.old.len ≤ frame_room)) }
     ensures { (h : ℕ → Reading) (n : ℕ) (t : List Entry) → stepped result m.new frame.new t
-        ≡ framed rules m.old frame.old t (plan frame_room rules h n m.old frame.old t (Var slot)) }
+        ≡ framed N.Arithmetic.rules m.old frame.old t (plan frame_room N.Arithmetic.rules h n m.old frame.old t (Var slot)) }
 {
     if slot >= m.len {
         return Err(IMPOSSIBLE);
@@ -64,7 +64,7 @@ fn variable<N: Arithmetic>(
 }
 
 fn operate<N: Arithmetic>(op: Op, left: N, right: N) -> Result<N, ArithmeticFault>
-    ensures { result ≡ applied rules op left right }
+    ensures { result ≡ applied N.Arithmetic.rules op left right }
 {
     match op {
         Op::Plus => left.plus(right),
@@ -77,7 +77,7 @@ fn operate<N: Arithmetic>(op: Op, left: N, right: N) -> Result<N, ArithmeticFaul
 fn join<N: Arithmetic>(m: &mut Registers, frame: &mut [N], op: Op) -> Result<Progress, Fault>
     requires { (m.old.index < 4096) × ((frame_room ≤ length frame.old) × (m.old.len ≤ frame_room)) }
     ensures { (h : ℕ → Reading) (n : ℕ) (t : List Entry) → stepped result m.new frame.new t
-        ≡ framed rules m.old frame.old t (plan frame_room rules h n m.old frame.old t (Operate op)) }
+        ≡ framed N.Arithmetic.rules m.old frame.old t (plan frame_room N.Arithmetic.rules h n m.old frame.old t (Operate op)) }
 {
     if m.len < 2 {
         return Err(IMPOSSIBLE);
@@ -92,7 +92,7 @@ fn join<N: Arithmetic>(m: &mut Registers, frame: &mut [N], op: Op) -> Result<Pro
 fn out<N: Arithmetic>(m: &mut Registers, frame: &mut [N]) -> Result<Progress, Fault>
     requires { (m.old.index < 4096) × ((frame_room ≤ length frame.old) × (m.old.len ≤ frame_room)) }
     ensures { (h : ℕ → Reading) (n : ℕ) (t : List Entry) → stepped result m.new frame.new t
-        ≡ framed rules m.old frame.old t (plan frame_room rules h n m.old frame.old t Out) }
+        ≡ framed N.Arithmetic.rules m.old frame.old t (plan frame_room N.Arithmetic.rules h n m.old frame.old t Out) }
 {
     if m.len <= 1 {
         return Err(IMPOSSIBLE);
@@ -111,7 +111,7 @@ fn unless<N: Arithmetic>(
 ) -> Result<Progress, Fault>
     requires { (m.old.index < 4096) × ((frame_room ≤ length frame.now) × (m.old.len ≤ frame_room)) }
     ensures { (h : ℕ → Reading) (t : List Entry) → stepped result m.new frame.now t
-        ≡ framed rules m.old frame.now t (plan frame_room rules h count m.old frame.now t (Unless target)) }
+        ≡ framed N.Arithmetic.rules m.old frame.now t (plan frame_room N.Arithmetic.rules h count m.old frame.now t (Unless target)) }
 {
     if target >= count || m.len == 0 {
         return Err(IMPOSSIBLE);
@@ -132,7 +132,7 @@ fn go<N: Arithmetic>(
     target: usize,
 ) -> Result<Progress, Fault>
     ensures { (h : ℕ → Reading) (t : List Entry) → stepped result m.new frame.now t
-        ≡ framed rules m.old frame.now t (plan frame_room rules h count m.old frame.now t (Go target)) }
+        ≡ framed N.Arithmetic.rules m.old frame.now t (plan frame_room N.Arithmetic.rules h count m.old frame.now t (Go target)) }
 {
     if target >= count {
         return Err(IMPOSSIBLE);
@@ -154,7 +154,7 @@ fn call<N: Arithmetic>(
 ) -> Result<Progress, Fault>
     requires { (m.old.index < 4096) × ((Sound frame_room m.old) × (128 ≤ length returns.old)) }
     ensures { (h : ℕ → Reading) → stepped result m.new frame.now returns.new
-        ≡ framed rules m.old frame.now returns.old (plan frame_room rules h count m.old frame.now returns.old (Call arity target)) }
+        ≡ framed N.Arithmetic.rules m.old frame.now returns.old (plan frame_room N.Arithmetic.rules h count m.old frame.now returns.old (Call arity target)) }
 {
     if arity < 1 || arity > 8 || target >= count || arity > m.len {
         return Err(IMPOSSIBLE);
@@ -182,7 +182,7 @@ fn back<N: Arithmetic>(
 ) -> Result<Progress, Fault>
     requires { (Sound frame_room m.old) × ((frame_room ≤ length frame.old) × (128 ≤ length returns.now)) }
     ensures { (h : ℕ → Reading) (n : ℕ) → stepped result m.new frame.new returns.now
-        ≡ framed rules m.old frame.old returns.now (plan frame_room rules h n m.old frame.old returns.now Back) }
+        ≡ framed N.Arithmetic.rules m.old frame.old returns.now (plan frame_room N.Arithmetic.rules h n m.old frame.old returns.now Back) }
 {
     if m.len == 0 {
         return Err(IMPOSSIBLE);
@@ -229,7 +229,7 @@ fn weigh<N: Arithmetic>(
 ) -> Result<Progress, Fault>
     requires { (m.old.index < 4096) × (frame_room ≤ length frame.old) }
     ensures { (n : ℕ) (t : List Entry) → stepped result m.new frame.new t
-        ≡ framed rules m.old frame.old t (plan frame_room rules (held_at held.now) n m.old frame.old t (Weigh channel)) }
+        ≡ framed N.Arithmetic.rules m.old frame.old t (plan frame_room N.Arithmetic.rules (held_at held.now) n m.old frame.old t (Weigh channel)) }
 {
     if channel < 1 || channel > 64 || m.len >= ROOM {
         return Err(IMPOSSIBLE);
@@ -252,7 +252,7 @@ pub(crate) fn carry_out<N: Arithmetic>(
     requires room { frame_room ≤ length frame.old }
     requires table { 128 ≤ length returns.old }
     ensures { stepped result m.new frame.new returns.new
-        ≡ framed rules m.old frame.old returns.old (plan frame_room rules (held_at held.now) count m.old frame.old returns.old instruction) }
+        ≡ framed N.Arithmetic.rules m.old frame.old returns.old (plan frame_room N.Arithmetic.rules (held_at held.now) count m.old frame.old returns.old instruction) }
 {
     match instruction {
         Instruction::Num(n) => number(m, frame, n),

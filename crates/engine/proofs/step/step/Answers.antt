@@ -13,10 +13,10 @@ returns g c =
     let m = c.args.m.now in
     let s = c.args.stack.now in
     let t = c.args.returns.now in
-    let o : Stepped g.row.N.Denot = stepped c.carry-out.result c.carry-out.new.m c.carry-out.new.frame c.carry-out.new.returns in
-    let w : Stepped g.row.N.Denot = stepped c.carry-out.result c.carry-out.new.m (back rules m s t c.carry-out.new.frame) c.carry-out.new.returns in
+    let o : Stepped g.row.N.Denot = stepped c.carry_out.result c.carry_out.new.m c.carry_out.new.frame c.carry_out.new.returns in
+    let w : Stepped g.row.N.Denot = stepped c.carry_out.result c.carry_out.new.m (back rules m s t c.carry_out.new.frame) c.carry_out.new.returns in
     let does : w ≡ step frame_room rules held count image m s t =
-    done_is_step rules held count image m s t c.requires.sound c.decode-instruction.result c.decode-instruction.ensures.does c.if-m-count.false c.requires.room o c.carry-out.ensures in
+    done_is_step rules held count image m s t c.requires.sound c.decode-instruction.result c.decode-instruction.ensures.does c.if-m-count.false c.requires.room o c.carry_out.ensures in
     record {
       does = does;
       sound = subst (λ (x : Stepped g.row.N.Denot). Sound frame_room x.registers) (sym does) (sound_step rules held count image m s t c.requires.sound);

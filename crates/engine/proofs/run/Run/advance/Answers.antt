@@ -8,7 +8,7 @@ use Rattle.engine.specs.declared.run.Run.{Run}
 use Rattle.machine.proofs.Grants.{not_going}
 use Rattle.engine.proofs.Grants.{enough}
 use Rattle.engine.proofs.run.Run.advance.Goals as goal
-use Rattle.engine.proofs.run.Run.advance.Goals.{in-Going, in-default}
+use Rattle.engine.proofs.run.Run.advance.Goals.{in-Going, in_default}
 
 pub returns : goal.returns
 returns g c =
@@ -26,27 +26,27 @@ returns g c =
           let a = w.self-is in
           let b = w.stack-is in
           let d = w.returns-is in
-          let made : Scene g.row.N.Denot = scene (course_of w.go-on.result).run w.go-on.new.stack w.go-on.new.returns in
+          let made : Scene g.row.N.Denot = scene (course_of w.go_on.result).run w.go_on.new.stack w.go_on.new.returns in
           let same : after ≡ made = cc in
-          same ∙ w.go-on.ensures.does
-      | in-default w ↦
+          same ∙ w.go_on.ensures.does
+      | in_default w ↦
           let a = w.self-is in
           let b = w.stack-is in
           let d = w.returns-is in
           let same : after ≡ before = cc in
-          same ∙ sym (not_going frame_room rules held self.count image c.args.grant before w.in-default.not-Going)
+          same ∙ sym (not_going frame_room rules held self.count image c.args.grant before w.in_default.not-Going)
     ] in
     let count : c.match-self.self.count ≡ self.count =
     elim c.match-self.branch [
-      | in-Going w ↦ ap (λ (r : Run). r.count) w.self-is ∙ w.go-on.ensures.count
-      | in-default w ↦ ap (λ (r : Run). r.count) w.self-is
+      | in-Going w ↦ ap (λ (r : Run). r.count) w.self-is ∙ w.go_on.ensures.count
+      | in_default w ↦ ap (λ (r : Run). r.count) w.self-is
     ] in
     ap (λ (n : ℕ). moved n after) count
     ∙ ap (moved self.count) does
     ∙ sym (cond-false (too_short self.count image s t) (left None (course_of self) s t)
-    (moved self.count (granted frame_room rules held self.count image c.args.grant before)) (sym c.if-too-short.ensures))
+    (moved self.count (granted frame_room rules held self.count image c.args.grant before)) (sym c.if-too_short.ensures))
 
-pub go-on-requires : goal.go-on-requires
-go-on-requires g c =
-    let long = enough (length c.args.image.now) c.args.self.now.count (length c.args.stack.now) 4128 (length c.args.returns.now) 128 (sym c.if-too-short.ensures) in
+pub go_on-requires : goal.go_on-requires
+go_on-requires g c =
+    let long = enough (length c.args.image.now) c.args.self.now.count (length c.args.stack.now) 4128 (length c.args.returns.now) 128 (sym c.if-too_short.ensures) in
     record { going = c.in-Going.is; image = long.0; room = long.1; table = long.2 }
