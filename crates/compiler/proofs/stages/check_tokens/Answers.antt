@@ -4,19 +4,19 @@ use Rattle.compiler.proofs.Calls.{on_from, takes_bytes}
 use Rattle.compiler.proofs.stages.check_tokens.Goals as goal
 
 pub loop-look-init : goal.loop-look-init
-loop-look-init c = (ap all_tokens c.next-token-look.ensures.reads, c.next-token-look.ensures.valid.1)
+loop-look-init c = (ap all_tokens c.next_token-look.ensures.reads, c.next_token-look.ensures.valid.1)
 
 pub loop-look-smaller : goal.loop-look-smaller
 loop-look-smaller c =
     let l = c.loop-look.look in
     let v = c.loop-look.invariant.1 in
-    let far = takes_bytes l.kind l.start l.end (length c.args.text.now) c.in-default.not-End v.2 in
-    omega (arith, v.1, c.next-token-look-in-default.ensures.valid.0)
+    let far = takes_bytes l.kind l.start l.end (length c.args.text.now) c.in_default.not-End v.2 in
+    omega (arith, v.1, c.next_token-look-in_default.ensures.valid.0)
 
 pub loop-look-preserved : goal.loop-look-preserved
 loop-look-preserved c =
     let l = c.loop-look.look in
-    let n = c.next-token-look-in-default in (
-      c.loop-look.invariant.0 ∙ (on_from c.args.text.now l.kind l.start l.end c.in-default.not-Bad c.in-default.not-End ∙ ap all_tokens n.ensures.reads),
+    let n = c.next_token-look-in_default in (
+      c.loop-look.invariant.0 ∙ (on_from c.args.text.now l.kind l.start l.end c.in_default.not-Bad c.in_default.not-End ∙ ap all_tokens n.ensures.reads),
       n.ensures.valid.1,
     )
