@@ -15,11 +15,11 @@ same_test false true d e = d.1 (e.0 refl)
 same_test false false d e = refl
 
 -- The search from i looks at the recipe there, then goes on.
-pub from-here :
+pub from_here :
     (name : List ℕ) (rs : List Recipe) (i : ℕ) (d : Recipe) → i < length rs →
     place_from i name (map entry_of (drop i rs)) ≡
     cond (bytes_eq (vec_items (get_or rs i d).name) name) (Some i) (place_from (i + 1) name (map entry_of (drop (i + 1) rs)))
-from-here name rs i d h =
+from_here name rs i d h =
     let cut : drop i rs ≡ get_or rs i d ∷ drop (i + 1) rs = rw add-one (drop-cons rs i d h) in
     ap (λ xs. place_from i name (map entry_of xs)) cut
 
@@ -38,20 +38,20 @@ one_more k rs ss r place e is =
     ap (with_recipes k) (map_push entry_of rs r) ∙ ap (λ p. with_recipes k (put_at p (entry_of r) (map entry_of rs))) (sym e)
 
 -- The three ends of a compile: a shelf that is full, a text that is accepted, one that is refused.
-pub ends-full :
+pub ends_full :
     (name text : List ℕ) (k : Kept) → full (place_of name k.recipes) k.recipes ≡ true →
     (too_many ≡ compile_told name text k) × (k ≡ compile_after name text k)
-ends-full name text k e = (rw e refl, rw e refl)
+ends_full name text k e = (rw e refl, rw e refl)
 
-pub ends-accepted :
+pub ends_accepted :
     (name text ws : List ℕ) (k l : Kept) (n : ℕ) → full (place_of name k.recipes) k.recipes ≡ false →
     accepted ws ≡ answer_at text k.image_room k.table_room → n ≡ length ws →
     l ≡ with_recipes k (put_at (place_of name k.recipes) (record { name = name; text = text; words = ws }) k.recipes) →
     (took n ≡ compile_told name text k) × (l ≡ compile_after name text k)
-ends-accepted name text ws k l n e a m p = (rw (e, ← a, m) refl, rw (e, ← a, p) refl)
+ends_accepted name text ws k l n e a m p = (rw (e, ← a, m) refl, rw (e, ← a, p) refl)
 
-pub ends-refused :
+pub ends_refused :
     (name text : List ℕ) (cause place : ℕ) (k : Kept) → full (place_of name k.recipes) k.recipes ≡ false →
     refused cause place ≡ answer_at text k.image_room k.table_room →
     (refuses cause place text ≡ compile_told name text k) × (k ≡ compile_after name text k)
-ends-refused name text cause place k e a = (rw (e, ← a) refl, rw (e, ← a) refl)
+ends_refused name text cause place k e a = (rw (e, ← a) refl, rw (e, ← a) refl)

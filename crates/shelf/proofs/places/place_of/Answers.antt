@@ -1,8 +1,8 @@
-use Rattle.std.proofs.Common.{◌≡◌, ℕ, ◌+◌, ◌<◌, Bool, true, false, cond, map, length, get_or, drop, Some, vec_items, sym, refl, ap, ◌∙◌, arith}
+use Rattle.std.proofs.Common.{◌≡◌, ◌+◌, true, false, cond, map, length, get_or, drop, Some, vec_items, sym, refl, ap, ◌∙◌, arith}
 use lib.Seq.{drop-length}
 use Rattle.std.specs.Str.{bytes_eq}
 use Rattle.shelf.specs.Kept.{entry_of, place_from}
-use Rattle.shelf.proofs.Entries.{from-here}
+use Rattle.shelf.proofs.Entries.{from_here}
 use Rattle.shelf.proofs.places.place_of.Goals as goal
 
 -- The recipe that is looked at stands at i.
@@ -17,7 +17,7 @@ returns-then-same c =
     (ap (λ n. bytes_eq n name) (sym c.deref.ensures.value) ∙ sym c.if-same.ensures) in
     record {
       place =
-          sym (c.loop-i.invariant ∙ (from-here name rs i item c.loop-i-test.true ∙
+          sym (c.loop-i.invariant ∙ (from_here name rs i item c.loop-i-test.true ∙
           ap (λ b. cond b (Some i) (place_from (i + 1) name (map entry_of (drop (i + 1) rs)))) e));
       within = c.loop-i-test.true;
     }
@@ -31,7 +31,7 @@ loop-i-preserved c =
     let e : bytes_eq (vec_items (get_or rs i item).name) name ≡ false =
     ap (λ r. bytes_eq (vec_items r.name) name) (sym c.index-recipes-i.is) ∙
     (ap (λ n. bytes_eq n name) (sym c.deref.ensures.value) ∙ sym c.if-same.ensures) in
-    c.loop-i.invariant ∙ (from-here name rs i item c.loop-i-test.true ∙
+    c.loop-i.invariant ∙ (from_here name rs i item c.loop-i-test.true ∙
     ap (λ b. cond b (Some i) (place_from (i + 1) name (map entry_of (drop (i + 1) rs)))) e)
 
 pub returns : goal.returns

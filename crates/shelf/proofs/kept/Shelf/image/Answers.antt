@@ -7,10 +7,10 @@ pub returns : goal.returns
 returns c =
     let rs = vec_items c.args.self.now.recipes in
     let name = c.args.name.now in
-    let i = c.in-ok-place.place in
-    let found = c.in-ok-place.ensures in
+    let i = c.in_ok-place.place in
+    let found = c.in_ok-place.ensures in
     let h : i < length rs = subst (λ xs. i < length xs) c.deref.ensures.value found.within in
     let place : Some i ≡ place_of name (map entry_of rs) = found.place ∙ ap (λ xs. place_of name (map entry_of xs)) c.deref.ensures.value in
     let item = c.index.result.now in
-    ap Some (c.as-slice.ensures.value ∙ (ap (λ r. vec_items r.image) c.index.ensures ∙ ap (λ e. e.words) (sym (get_or-map entry_of rs i item no_entry h)))) ∙
+    ap Some (c.as_slice.ensures.value ∙ (ap (λ r. vec_items r.image) c.index.ensures ∙ ap (λ e. e.words) (sym (get_or-map entry_of rs i item no_entry h)))) ∙
     ap (λ p. words_at p (map entry_of rs)) place

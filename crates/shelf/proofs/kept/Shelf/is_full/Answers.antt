@@ -1,4 +1,4 @@
-use Rattle.std.proofs.Common.{leb, map, length, vec_items, sym, ap, ◌∙◌}
+use Rattle.std.proofs.Common.{leb, map, vec_items, sym, ap, ◌∙◌}
 use lib.ListN.{length-map}
 use Rattle.shelf.specs.Kept.{entry_of, full}
 use Rattle.shelf.proofs.kept.Shelf.is_full.Goals as goal
