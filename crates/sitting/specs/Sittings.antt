@@ -80,9 +80,9 @@ go_on_after o bs s =
     (with_draft s (Some (lengthened o bs)))
 
 -- where memory runs out, the text is let go, and nothing else has changed
-abbrev pub Goes_on : Drafted → List ℕ → Sitting → Result Reply AllocError → Sitting → Type 0
-Goes_on o bs s (Ok a) t = (said a ≡ go_on_said o bs s) × (t ≡ go_on_after o bs s)
-Goes_on o bs s (Err e) t = t ≡ with_draft s None
+abbrev pub GoesOn : Drafted → List ℕ → Sitting → Result Reply AllocError → Sitting → Type 0
+GoesOn o bs s (Ok a) t = (said a ≡ go_on_said o bs s) × (t ≡ go_on_after o bs s)
+GoesOn o bs s (Err e) t = t ≡ with_draft s None
 
 -- ---- while none is
 abbrev pub words_said : Option (List ℕ) → Said
@@ -142,7 +142,7 @@ Hears bs s r t = Meets (recipe_line bs) bs s r t
 -- ---- any line
 abbrev pub ByDraft : Option Drafted → List ℕ → Sitting → Result Reply AllocError → Sitting → Type 0
 ByDraft None bs s r t = Hears bs s r t
-ByDraft (Some o) bs s r t = Goes_on o bs s r t
+ByDraft (Some o) bs s r t = GoesOn o bs s r t
 
 abbrev pub Sits : List ℕ → Sitting → Result Reply AllocError → Sitting → Type 0
 Sits bs s r t = ByDraft s.draft bs s r t

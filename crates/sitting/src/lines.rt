@@ -2,7 +2,7 @@
 ghost use Rattle.std.specs.Prelude.{◌≡◌, [], ◌∷◌, ◌++◌, is_some, IfOk, None, OnOk};
 ghost use Rattle.command.specs.OfRecipes.{bid};
 ghost use Rattle.shelf.specs.Kept.{Compiles};
-ghost use Rattle.sitting.specs.Sittings.{Bids, Goes_on, Hears, Loads, Sits, Weighs, at_first, lengthened, draft_of, sitting_of};
+ghost use Rattle.sitting.specs.Sittings.{Bids, GoesOn, Hears, Loads, Sits, Weighs, at_first, lengthened, draft_of, sitting_of};
 
 use command::{RecipeCommand, RecipeLine, RecipeMisreading, ends_text, parse_recipe};
 use session::{Answer, Bench};
@@ -75,7 +75,7 @@ impl Session {
         line: &[u8],
     ) -> Result<Reply<'static>, AllocError>
         requires { self.old.draft ≡ None }
-        ensures { Goes_on (draft_of draft) line.now (sitting_of self.old) result (sitting_of self.new) }
+        ensures { GoesOn (draft_of draft) line.now (sitting_of self.old) result (sitting_of self.new) }
     {
         if ends_text(line) {
             let Draft { name, mut text } = draft;
