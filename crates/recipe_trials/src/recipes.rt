@@ -6,6 +6,7 @@ use std::process::Abort;
 use std::test::Fail;
 
 // A text: what comes first, then a piece so many times, then what comes last.
+#[derive(Drop)]
 struct Row {
     first: &'static str,
     piece: &'static str,

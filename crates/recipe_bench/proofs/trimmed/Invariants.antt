@@ -1,5 +1,5 @@
 use Rattle.std.proofs.Common.{◌-◌, ◌≤◌, length}
-use Rattle.bench.proofs.trimmed.Given as goal
+use Rattle.recipe_bench.proofs.trimmed.Given as goal
 
 abbrev pub invariant-loop-from : goal.invariant-loop-from
 invariant-loop-from l = l.from ≤ length l.line

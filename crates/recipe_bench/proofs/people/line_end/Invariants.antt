@@ -1,5 +1,5 @@
 use Rattle.std.proofs.Common.{◌-◌, ◌≤◌, min, length}
-use Rattle.bench.proofs.people.line_end.Given as goal
+use Rattle.recipe_bench.proofs.people.line_end.Given as goal
 
 abbrev pub invariant-loop-end : goal.invariant-loop-end
 invariant-loop-end l = (min l.place (length l.text) ≤ l.end) × (l.end ≤ length l.text)

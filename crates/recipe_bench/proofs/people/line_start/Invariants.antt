@@ -1,5 +1,5 @@
 use Rattle.std.proofs.Common.{◌≤◌, min, length}
-use Rattle.bench.proofs.people.line_start.Given as goal
+use Rattle.recipe_bench.proofs.people.line_start.Given as goal
 
 abbrev pub invariant-loop-start : goal.invariant-loop-start
 invariant-loop-start l = l.start ≤ min l.place (length l.text)
