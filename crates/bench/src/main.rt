@@ -7,6 +7,7 @@ use std::alloc::Global;
 use std::env;
 use std::fs::File;
 use std::io::{BufRead, BufReader, Write};
+use std::process::ExitCode;
 
 const HELP: &str = "\
 bench FILE      prints the record of the session in FILE
@@ -107,10 +108,13 @@ fn run(rt: &HostRuntime) -> anyhow::Result<()> {
     record_of(rt, heap, word.as_str())
 }
 
-fn main(rt: HostRuntime) -> anyhow::Result<()> {
-    let done = run(&rt);
-    if let Err(error) = &done {
-        eprintln!(rt; "bench: {error}")?;
+// An error is told once, on standard error, and the status is 1.
+fn main(rt: HostRuntime) -> ExitCode {
+    match run(&rt) {
+        Ok(()) => ExitCode::SUCCESS,
+        Err(error) => {
+            let _ = eprintln!(rt; "bench: {error}");
+            ExitCode::FAILURE
+        }
     }
-    done
 }

@@ -23,7 +23,7 @@ abbrev pub checked : Option ℤ → Answer Gram
 checked None = Err OutOfRange
 checked (Some z) = answered z
 
--- quotZ is the quotient with its fraction dropped, toward zero
+-- int_div is the quotient with its fraction dropped, toward zero
 abbrev pub divided : ℤ → ℤ → Answer Gram
 divided number divisor = cond (unsigned_abs divisor == 0) (Err DivisorZero) (answered (int_div number divisor))
 

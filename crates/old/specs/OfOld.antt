@@ -8,11 +8,11 @@ use Rattle.old.specs.declared.Old.{Old}
 abbrev pub place : ℤ → Old
 place z = record { grams = z }
 
--- the result z in 32 bits: wrapped keeps what z is modulo 2^32
+-- the result z in 32 bits: int_wrap keeps what z is modulo 2^32
 abbrev pub answered : ℤ → Answer Old
 answered z = Ok (place (int_wrap w32 z))
 
--- every number of 32 bits is a value; quotZ is the quotient with its fraction dropped, toward zero
+-- every number of 32 bits is a value; int_div is the quotient with its fraction dropped, toward zero
 abbrev pub old_rules : Rules Old
 old_rules = record {
   value = λ _. true;

@@ -10,6 +10,7 @@ use sitting::{Reply, Session};
 use std::alloc::Global;
 use std::fs::File;
 use std::io::{BufRead, BufReader, Write};
+use std::process::ExitCode;
 use std::str::from_utf8;
 use std::{env, fs, io};
 
@@ -204,10 +205,13 @@ fn run(rt: &HostRuntime) -> anyhow::Result<()> {
     Ok(())
 }
 
-fn main(rt: HostRuntime) -> anyhow::Result<()> {
-    let done = run(&rt);
-    if let Err(error) = &done {
-        eprintln!(rt; "bench: {error}")?;
+// An error is told once, on standard error, and the status is 1.
+fn main(rt: HostRuntime) -> ExitCode {
+    match run(&rt) {
+        Ok(()) => ExitCode::SUCCESS,
+        Err(error) => {
+            let _ = eprintln!(rt; "bench: {error}");
+            ExitCode::FAILURE
+        }
     }
-    done
 }
