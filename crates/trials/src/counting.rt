@@ -425,6 +425,14 @@ fn positive_is_above_zero(rt: HostRuntime) {
 }
 
 #[test]
+fn positive_at_more_edges(rt: HostRuntime) {
+    assert!(rt; Gram { grams: MAX }.positive());
+    assert!(rt;
+        Old { grams: 1 }.positive() && !Old { grams: 0 }.positive() && !Old { grams: -1 }.positive()
+    );
+}
+
+#[test]
 fn shown_in_whole_grams(rt: HostRuntime) {
     assert_eq!(rt; Gram { grams: MIN }.shown(), 0);
     assert_eq!(rt; Old { grams: MIN }.shown(), MIN);
