@@ -14,7 +14,7 @@ const LARGEST_NUMBER: u32 = 268_435_455;
 const LONGEST_NAME: usize = 16;
 
 // What a token is. A name's bytes, and not its spelling, are what a lexeme has.
-#[derive(Clone, Copy)]
+#[derive(Clone, Copy, PartialEq, Eq, Debug)]
 pub enum Kind {
     Number(u32),
     Name,
@@ -25,7 +25,7 @@ pub enum Kind {
 }
 
 // A token and the bytes that it takes, from `start` to `end`; past the last one, the end of the text.
-#[derive(Clone, Copy)]
+#[derive(Clone, Copy, PartialEq, Eq, Debug)]
 pub struct Lexeme {
     pub kind: Kind,
     pub start: usize,

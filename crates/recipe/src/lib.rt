@@ -7,7 +7,7 @@ mod worked;
 pub use cause::{Cause, Refusal};
 
 // The operators: + - * and div.
-#[derive(Clone, Copy)]
+#[derive(Clone, Copy, PartialEq, Eq, Debug)]
 pub enum Op {
     Plus,
     Minus,
@@ -16,7 +16,7 @@ pub enum Op {
 }
 
 // The reserved words and signs that are no operator.
-#[derive(Clone, Copy)]
+#[derive(Clone, Copy, PartialEq, Eq, Debug)]
 pub enum Word {
     Let,
     In,
