@@ -1,5 +1,6 @@
 -- One lexeme alone meets what is promised of the next token.
 use Rattle.std.proofs.Common.{◌≡◌, ℕ, ◌+◌, ◌-◌, ◌*◌, ◌<◌, ◌≤◌, Bool, true, false, cond, ◌||◌, eqb, leb, List, [], ◌∷◌, ◌++◌, length, get_or, drop, codes, sym, refl, ap, ◌∙◌, subst, inl, inr, arith}
+use Rattle.std.specs.List.{between}
 use Rattle.std.specs.Str.{bytes_eq}
 use Rattle.std.proofs.lemmas.List.{drop_more}
 use Rattle.std.proofs.lemmas.Bool.{cases_Bool, cases_lt}
@@ -8,11 +9,7 @@ use Rattle.recipe.specs.declared.cause.Cause.{Cause}
 use Rattle.recipe.specs.declared.cause.Cause.TheVariants.{TextTooLong, NoRoom, UnknownByte, NumberTooLarge, NameTooLong}
 use Rattle.recipe.specs.declared.cause.Cause.TheVariants.{Grammar, Nesting, Functions, Parameters, Constructs}
 use Rattle.recipe.specs.declared.cause.Cause.TheVariants.{DeclaredTwice, UnknownName, ArgumentCount, Channel, Frame}
-use Rattle.recipe.specs.declared.Op.{Op}
-use Rattle.recipe.specs.declared.Op.TheVariants.{Plus}
-use Rattle.recipe.specs.declared.Word.{Word as AWord}
-use Rattle.recipe.specs.declared.Word.TheVariants.{Let}
-use Rattle.recipe.specs.Tokens.{Token, Number as ANumber, Name as AName, Operator as AnOperator, TheWord, Bad as ABad}
+use Rattle.recipe.specs.Tokens.{Token, Ident, Literal, Bad as ABad}
 use Rattle.recipe.specs.Tokens.{place, blank, digit, letter, scan, idle, digits, letters, number_token, name_token, sign}
 use Rattle.lexer.specs.Lexed.{tokens_from, then_from, Proper, Unbroken, OneAnswer}
 use Rattle.lexer.specs.declared.Kind.{Kind}
@@ -121,45 +118,7 @@ ends_agree text p e p' e' q a b a' b' u u' g =
       ]
     ]
 
--- What a token has, by its kind.
-heads : (t u : Token) (ts us : List Token) → t ∷ ts ≡ u ∷ us → (t ≡ u) × (ts ≡ us)
-heads t u ts us e = (cc, cc)
-
-abbrev tag : Token → ℕ
-tag (ANumber n) = 0
-tag (AName x) = 1
-tag (AnOperator p o) = 2
-tag (TheWord p w) = 3
-tag (ABad p c) = 4
-
-abbrev value_of : Token → ℕ
-value_of (ANumber n) = n.value
-value_of (AName x) = 0
-value_of (AnOperator p o) = 0
-value_of (TheWord p w) = 0
-value_of (ABad p c) = 0
-
-abbrev op_of : Token → Op
-op_of (ANumber n) = Plus
-op_of (AName x) = Plus
-op_of (AnOperator p o) = o
-op_of (TheWord p w) = Plus
-op_of (ABad p c) = Plus
-
-abbrev word_of : Token → AWord
-word_of (ANumber n) = Let
-word_of (AName x) = Let
-word_of (AnOperator p o) = Let
-word_of (TheWord p w) = w
-word_of (ABad p c) = Let
-
-abbrev cause_of : Token → ℕ
-cause_of (ANumber n) = 0
-cause_of (AName x) = 0
-cause_of (AnOperator p o) = 0
-cause_of (TheWord p w) = 0
-cause_of (ABad p c) = c
-
+-- A cause by its number.
 abbrev decode : ℕ → Cause
 decode n =
     cond (eqb n 1) TextTooLong
@@ -199,50 +158,52 @@ one : (text : List ℕ) (k k' : Kind) (p e p' e' : ℕ) → then_from text k p e
     (p ≤ e) × (e ≤ length text) × Proper k p e (length text) → (p' ≤ e') × (e' ≤ length text) × Proper k' p' e' (length text) →
     Unbroken text p e → Unbroken text p' e' → (k ≡ k') × (p ≡ p') × (e ≡ e')
 one text (Number n) (Number n') p e p' e' g v v' u u' =
-    let h = heads _ _ _ _ g in let q : p ≡ p' = ap place h.0 in
-    (ap Number (ap value_of h.0), q, ends_agree text p e p' e' q v.0 v.1 v'.0 v'.1 u u' h.1)
-one text (Number n) Name p e p' e' g v v' u u' = let z : ◌≡◌ {A = ℕ} 0 1 = ap tag (heads _ _ _ _ g).0 in absurd (omega arith)
-one text (Number n) (Operator o') p e p' e' g v v' u u' = let z : ◌≡◌ {A = ℕ} 0 2 = ap tag (heads _ _ _ _ g).0 in absurd (omega arith)
-one text (Number n) (Word w') p e p' e' g v v' u u' = let z : ◌≡◌ {A = ℕ} 0 3 = ap tag (heads _ _ _ _ g).0 in absurd (omega arith)
-one text (Number n) (Bad c') p e p' e' g v v' u u' = let z : ◌≡◌ {A = ℕ} 0 4 = ap tag (heads _ _ _ _ g).0 in absurd (omega arith)
-one text (Number n) End p e p' e' g v v' u u' = let z : ◌≡◌ {A = ℕ} 0 1 = cc in absurd (omega arith)
-one text Name (Number n') p e p' e' g v v' u u' = let z : ◌≡◌ {A = ℕ} 1 0 = ap tag (heads _ _ _ _ g).0 in absurd (omega arith)
+    let r : ◌≡◌ {A = Literal} (record { place = p; value = n }) (record { place = p'; value = n' }) = cc in
+    let q : p ≡ p' = ap (λ l. l.place) r in
+    (ap (λ l. Number l.value) r, q, ends_agree text p e p' e' q v.0 v.1 v'.0 v'.1 u u' cc)
+one text (Number n) Name p e p' e' g v v' u u' = absurd cc
+one text (Number n) (Operator o') p e p' e' g v v' u u' = absurd cc
+one text (Number n) (Word w') p e p' e' g v v' u u' = absurd cc
+one text (Number n) (Bad c') p e p' e' g v v' u u' = absurd cc
+one text (Number n) End p e p' e' g v v' u u' = absurd cc
+one text Name (Number n') p e p' e' g v v' u u' = absurd cc
 one text Name Name p e p' e' g v v' u u' =
-    let h = heads _ _ _ _ g in let q : p ≡ p' = ap place h.0 in
-    (refl, q, ends_agree text p e p' e' q v.0 v.1 v'.0 v'.1 u u' h.1)
-one text Name (Operator o') p e p' e' g v v' u u' = let z : ◌≡◌ {A = ℕ} 1 2 = ap tag (heads _ _ _ _ g).0 in absurd (omega arith)
-one text Name (Word w') p e p' e' g v v' u u' = let z : ◌≡◌ {A = ℕ} 1 3 = ap tag (heads _ _ _ _ g).0 in absurd (omega arith)
-one text Name (Bad c') p e p' e' g v v' u u' = let z : ◌≡◌ {A = ℕ} 1 4 = ap tag (heads _ _ _ _ g).0 in absurd (omega arith)
-one text Name End p e p' e' g v v' u u' = let z : ◌≡◌ {A = ℕ} 0 1 = cc in absurd (omega arith)
-one text (Operator o) (Number n') p e p' e' g v v' u u' = let z : ◌≡◌ {A = ℕ} 2 0 = ap tag (heads _ _ _ _ g).0 in absurd (omega arith)
-one text (Operator o) Name p e p' e' g v v' u u' = let z : ◌≡◌ {A = ℕ} 2 1 = ap tag (heads _ _ _ _ g).0 in absurd (omega arith)
+    let r : ◌≡◌ {A = Ident} (record { place = p; name = between p e text }) (record { place = p'; name = between p' e' text }) = cc in
+    let q : p ≡ p' = ap (λ l. l.place) r in
+    (refl, q, ends_agree text p e p' e' q v.0 v.1 v'.0 v'.1 u u' cc)
+one text Name (Operator o') p e p' e' g v v' u u' = absurd cc
+one text Name (Word w') p e p' e' g v v' u u' = absurd cc
+one text Name (Bad c') p e p' e' g v v' u u' = absurd cc
+one text Name End p e p' e' g v v' u u' = absurd cc
+one text (Operator o) (Number n') p e p' e' g v v' u u' = absurd cc
+one text (Operator o) Name p e p' e' g v v' u u' = absurd cc
 one text (Operator o) (Operator o') p e p' e' g v v' u u' =
-    let h = heads _ _ _ _ g in let q : p ≡ p' = ap place h.0 in
-    (ap Operator (ap op_of h.0), q, ends_agree text p e p' e' q v.0 v.1 v'.0 v'.1 u u' h.1)
-one text (Operator o) (Word w') p e p' e' g v v' u u' = let z : ◌≡◌ {A = ℕ} 2 3 = ap tag (heads _ _ _ _ g).0 in absurd (omega arith)
-one text (Operator o) (Bad c') p e p' e' g v v' u u' = let z : ◌≡◌ {A = ℕ} 2 4 = ap tag (heads _ _ _ _ g).0 in absurd (omega arith)
-one text (Operator o) End p e p' e' g v v' u u' = let z : ◌≡◌ {A = ℕ} 0 1 = cc in absurd (omega arith)
-one text (Word w) (Number n') p e p' e' g v v' u u' = let z : ◌≡◌ {A = ℕ} 3 0 = ap tag (heads _ _ _ _ g).0 in absurd (omega arith)
-one text (Word w) Name p e p' e' g v v' u u' = let z : ◌≡◌ {A = ℕ} 3 1 = ap tag (heads _ _ _ _ g).0 in absurd (omega arith)
-one text (Word w) (Operator o') p e p' e' g v v' u u' = let z : ◌≡◌ {A = ℕ} 3 2 = ap tag (heads _ _ _ _ g).0 in absurd (omega arith)
+    let q : p ≡ p' = cc in
+    (cc, q, ends_agree text p e p' e' q v.0 v.1 v'.0 v'.1 u u' cc)
+one text (Operator o) (Word w') p e p' e' g v v' u u' = absurd cc
+one text (Operator o) (Bad c') p e p' e' g v v' u u' = absurd cc
+one text (Operator o) End p e p' e' g v v' u u' = absurd cc
+one text (Word w) (Number n') p e p' e' g v v' u u' = absurd cc
+one text (Word w) Name p e p' e' g v v' u u' = absurd cc
+one text (Word w) (Operator o') p e p' e' g v v' u u' = absurd cc
 one text (Word w) (Word w') p e p' e' g v v' u u' =
-    let h = heads _ _ _ _ g in let q : p ≡ p' = ap place h.0 in
-    (ap Word (ap word_of h.0), q, ends_agree text p e p' e' q v.0 v.1 v'.0 v'.1 u u' h.1)
-one text (Word w) (Bad c') p e p' e' g v v' u u' = let z : ◌≡◌ {A = ℕ} 3 4 = ap tag (heads _ _ _ _ g).0 in absurd (omega arith)
-one text (Word w) End p e p' e' g v v' u u' = let z : ◌≡◌ {A = ℕ} 0 1 = cc in absurd (omega arith)
-one text (Bad c) (Number n') p e p' e' g v v' u u' = let z : ◌≡◌ {A = ℕ} 4 0 = ap tag (heads _ _ _ _ g).0 in absurd (omega arith)
-one text (Bad c) Name p e p' e' g v v' u u' = let z : ◌≡◌ {A = ℕ} 4 1 = ap tag (heads _ _ _ _ g).0 in absurd (omega arith)
-one text (Bad c) (Operator o') p e p' e' g v v' u u' = let z : ◌≡◌ {A = ℕ} 4 2 = ap tag (heads _ _ _ _ g).0 in absurd (omega arith)
-one text (Bad c) (Word w') p e p' e' g v v' u u' = let z : ◌≡◌ {A = ℕ} 4 3 = ap tag (heads _ _ _ _ g).0 in absurd (omega arith)
+    let q : p ≡ p' = cc in
+    (cc, q, ends_agree text p e p' e' q v.0 v.1 v'.0 v'.1 u u' cc)
+one text (Word w) (Bad c') p e p' e' g v v' u u' = absurd cc
+one text (Word w) End p e p' e' g v v' u u' = absurd cc
+one text (Bad c) (Number n') p e p' e' g v v' u u' = absurd cc
+one text (Bad c) Name p e p' e' g v v' u u' = absurd cc
+one text (Bad c) (Operator o') p e p' e' g v v' u u' = absurd cc
+one text (Bad c) (Word w') p e p' e' g v v' u u' = absurd cc
 one text (Bad c) (Bad c') p e p' e' g v v' u u' =
-    let h = heads _ _ _ _ g in let q : p ≡ p' = ap place h.0 in
-    (ap Bad (sym (decoded c) ∙ (ap (λ t. decode (cause_of t)) h.0 ∙ decoded c')), q, ends_agree text p e p' e' q v.0 v.1 v'.0 v'.1 u u' h.1)
-one text (Bad c) End p e p' e' g v v' u u' = let z : ◌≡◌ {A = ℕ} 0 1 = cc in absurd (omega arith)
-one text End (Number n') p e p' e' g v v' u u' = let z : ◌≡◌ {A = ℕ} 0 1 = cc in absurd (omega arith)
-one text End Name p e p' e' g v v' u u' = let z : ◌≡◌ {A = ℕ} 0 1 = cc in absurd (omega arith)
-one text End (Operator o') p e p' e' g v v' u u' = let z : ◌≡◌ {A = ℕ} 0 1 = cc in absurd (omega arith)
-one text End (Word w') p e p' e' g v v' u u' = let z : ◌≡◌ {A = ℕ} 0 1 = cc in absurd (omega arith)
-one text End (Bad c') p e p' e' g v v' u u' = let z : ◌≡◌ {A = ℕ} 0 1 = cc in absurd (omega arith)
+    let q : p ≡ p' = cc in
+    (ap Bad (sym (decoded c) ∙ (ap decode (let r : cause_number c ≡ cause_number c' = cc in r) ∙ decoded c')), q, ends_agree text p e p' e' q v.0 v.1 v'.0 v'.1 u u' cc)
+one text (Bad c) End p e p' e' g v v' u u' = absurd cc
+one text End (Number n') p e p' e' g v v' u u' = absurd cc
+one text End Name p e p' e' g v v' u u' = absurd cc
+one text End (Operator o') p e p' e' g v v' u u' = absurd cc
+one text End (Word w') p e p' e' g v v' u u' = absurd cc
+one text End (Bad c') p e p' e' g v v' u u' = absurd cc
 one text End End p e p' e' g v v' u u' = (refl, v.2 ∙ sym v'.2, (let a = v.2 in let b = v'.2 in omega arith))
 
 pub one_answer : OneAnswer

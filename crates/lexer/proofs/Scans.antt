@@ -1,13 +1,20 @@
--- Steps of the scan.
-use Rattle.std.proofs.Common.{◌≡◌, ℕ, ◌+◌, ◌-◌, ◌*◌, ◌<◌, ◌≤◌, true, false, ◌&&◌, ◌||◌, eqb, leb, ◌⊎◌, List, [], ◌∷◌, ◌++◌, length, get_or, take, drop, sym, refl, ap, ◌∙◌, subst, inl, inr, arith}
-use Rattle.std.specs.List.{between}
-use Rattle.std.proofs.lemmas.List.{drop_more, drop_all, take_more, length-drop, get_or-drop}
-use Rattle.std.proofs.lemmas.Bool.{or_cases, eqb-true, cases_lt, leb-true, cases_Bool, le-leb, lt-leb, and_parts}
-use Rattle.recipe.specs.Tokens.{blank, digit, letter, scan, idle, digits, letters, number_token, name_token, sign}
-use Rattle.lexer.specs.Lexed.{tokens_from, capped, IsToken, then_from, token_of, Proper, Unbroken}
+-- Steps of the scan, and runs of it.
+use Rattle.std.proofs.Common.{◌≡◌, ℕ, ◌+◌, ◌-◌, ◌*◌, ◌<◌, ◌≤◌, min, Bool, zero, true, false, ◌&&◌, ◌||◌, eqb, leb, List, [], ◌∷◌, ◌++◌, length, get_or, take, drop, append_assoc, codes, suc, sym, refl, ap, ◌∙◌, subst, inl, inr, arith}
+use Rattle.std.specs.List.{between, fold, prefix_len}
+use Rattle.std.specs.Str.{bytes_eq}
+use Rattle.std.specs.Char.{is_ascii_alphabetic, is_ascii_alphanumeric}
+use Rattle.std.proofs.lemmas.Slice.Eq.{bytes_eq-Decides}
+use Rattle.std.proofs.lemmas.List.Sums.{prefix_len_is}
+use Rattle.std.proofs.lemmas.List.{append-nil, drop-drop, get_or-drop, length-drop, drop_all}
+use Rattle.std.proofs.lemmas.List.Folds.{fold_along}
+use Rattle.std.proofs.lemmas.Bool.{or_cases, or_left, eqb-true, leb-true, cases_Bool, le-leb, lt-leb, and_parts, cases_lt}
+use Rattle.recipe.specs.Tokens.{Token, Name as AName, blank, digit, letter, scan, idle, digits, letters, number_token, name_token, sign}
+use Rattle.lexer.specs.Lexed.{tokens_from, IsToken, then_from, token_of, Begins, Proper, Stands, Unbroken, worth}
+use Rattle.recipe.specs.declared.cause.Cause.TheVariants.{NumberTooLarge}
 use Rattle.lexer.specs.declared.Kind.{Kind}
 use Rattle.lexer.specs.declared.Kind.TheVariants.{Number, Name, Operator, Word, Bad, End}
 
+-- ---- a byte
 pub blank_at : (p c : ℕ) (cs : List ℕ) → blank c ≡ true → scan idle p (c ∷ cs) ≡ scan idle (p + 1) cs
 blank_at p c cs h =
     let by : (d : ℕ) → eqb c d ≡ true → scan idle p (d ∷ cs) ≡ scan idle (p + 1) cs → scan idle p (c ∷ cs) ≡ scan idle (p + 1) cs =
@@ -43,89 +50,118 @@ letter_ends q s p c cs h = simp h
 pub sign_at : (p c : ℕ) (cs : List ℕ) → digit c ≡ false → letter c ≡ false → scan idle p (c ∷ cs) ≡ sign p c ++ scan idle (p + 1) cs
 sign_at p c cs d l = simp (d, l)
 
--- over the text
-module _ (text : List ℕ) where
-  pub skips : (i : ℕ) → i < length text → blank (get_or text i 0) ≡ true → tokens_from text i ≡ tokens_from text (i + 1)
-  skips i h b = ap (scan idle i) (drop_more text i 0 h) ∙ blank_at i (get_or text i 0) (drop (i + 1) text) b
+-- ---- a run of bytes
+prefix_yes : (test : ℕ → Bool) (c : ℕ) (cs : List ℕ) → test c ≡ true → prefix_len test (c ∷ cs) ≡ suc (prefix_len test cs)
+prefix_yes test c cs h = let e : prefix_len test (c ∷ cs) ≡ 1 + prefix_len test cs = simp h in omega arith
 
-  pub number_begins : (i : ℕ) → i < length text → digit (get_or text i 0) ≡ true → tokens_from text i ≡ scan (digits i (get_or text i 0 - 48)) (i + 1) (drop (i + 1) text)
-  number_begins i h b = ap (scan idle i) (drop_more text i 0 h) ∙ digit_begins i (get_or text i 0) (drop (i + 1) text) b
+prefix_no : (test : ℕ → Bool) (c : ℕ) (cs : List ℕ) → test c ≡ false → prefix_len test (c ∷ cs) ≡ 0
+prefix_no test c cs h = simp h
 
-  pub number_more : (q n i : ℕ) → i < length text → digit (get_or text i 0) ≡ true →
-      scan (digits q n) i (drop i text) ≡ scan (digits q (10 * n + (get_or text i 0 - 48))) (i + 1) (drop (i + 1) text)
-  number_more q n i h b = ap (scan (digits q n) i) (drop_more text i 0 h) ∙ digit_more q n i (get_or text i 0) (drop (i + 1) text) b
+-- the place after one byte and n more
+next_place : (p n : ℕ) → (p + 1) + n ≡ p + suc n
+next_place p n = omega arith
 
-  pub number_ends : (q n i : ℕ) → (i < length text → digit (get_or text i 0) ≡ false) →
-      scan (digits q n) i (drop i text) ≡ number_token q n ∷ tokens_from text i
-  number_ends q n i b =
-      elim (cases_lt i (length text)) [
-        | inl h ↦ ap (scan (digits q n) i) (drop_more text i 0 h) ∙ (digit_ends q n i (get_or text i 0) (drop (i + 1) text) (b h)
-            ∙ ap (λ cs. number_token q n ∷ scan idle i cs) (sym (drop_more text i 0 h)))
-        | inr h ↦ ap (scan (digits q n) i) (drop_all i text h) ∙ ap (λ cs. number_token q n ∷ scan idle i cs) (sym (drop_all i text h))
-      ]
+this_place : (p : ℕ) → p ≡ p + 0
+this_place p = omega arith
 
-  between_one : (i : ℕ) → i < length text → between i (i + 1) text ≡ get_or text i 0 ∷ []
-  between_one i h = let e : (i + 1) - i ≡ 1 = omega arith in ap (λ n. take n (drop i text)) e ∙ ap (take 1) (drop_more text i 0 h)
-
-  between_more : (q i : ℕ) → q ≤ i → i < length text → between q (i + 1) text ≡ between q i text ++ (get_or text i 0 ∷ [])
-  between_more q i a h =
-      let e : (i + 1) - q ≡ (i - q) + 1 = omega arith in
-      let b : i - q < length (drop q text) = simp length-drop (omega arith) in
-      let g : q + (i - q) ≡ i = omega arith in
-      ap (λ n. take n (drop q text)) e ∙ (take_more (drop q text) (i - q) 0 b
-      ∙ ap (λ c. between q i text ++ (c ∷ [])) (get_or-drop q text (i - q) 0 ∙ ap (λ k. get_or text k 0) g))
-
-  pub name_begins : (i : ℕ) → i < length text → letter (get_or text i 0) ≡ true → digit (get_or text i 0) ≡ false →
-      tokens_from text i ≡ scan (letters i (between i (i + 1) text)) (i + 1) (drop (i + 1) text)
-  name_begins i h b d =
-      ap (scan idle i) (drop_more text i 0 h) ∙ (letter_begins i (get_or text i 0) (drop (i + 1) text) b d
-      ∙ ap (λ s. scan (letters i s) (i + 1) (drop (i + 1) text)) (sym (between_one i h)))
-
-  pub name_more : (q i : ℕ) → q ≤ i → i < length text → (letter (get_or text i 0) || digit (get_or text i 0)) ≡ true →
-      scan (letters q (between q i text)) i (drop i text) ≡ scan (letters q (between q (i + 1) text)) (i + 1) (drop (i + 1) text)
-  name_more q i a h b =
-      ap (scan (letters q (between q i text)) i) (drop_more text i 0 h) ∙ (letter_more q (between q i text) i (get_or text i 0) (drop (i + 1) text) b
-      ∙ ap (λ s. scan (letters q s) (i + 1) (drop (i + 1) text)) (sym (between_more q i a h)))
-
-  pub name_ends : (q : ℕ) (s : List ℕ) (i : ℕ) → (i < length text → (letter (get_or text i 0) || digit (get_or text i 0)) ≡ false) →
-      scan (letters q s) i (drop i text) ≡ name_token q s ∷ tokens_from text i
-  name_ends q s i b =
-      elim (cases_lt i (length text)) [
-        | inl h ↦ ap (scan (letters q s) i) (drop_more text i 0 h) ∙ (letter_ends q s i (get_or text i 0) (drop (i + 1) text) (b h)
-            ∙ ap (λ cs. name_token q s ∷ scan idle i cs) (sym (drop_more text i 0 h)))
-        | inr h ↦ ap (scan (letters q s) i) (drop_all i text h) ∙ ap (λ cs. name_token q s ∷ scan idle i cs) (sym (drop_all i text h))
-      ]
-
-  pub sign_there : (i : ℕ) → i < length text → digit (get_or text i 0) ≡ false → letter (get_or text i 0) ≡ false →
-      tokens_from text i ≡ sign i (get_or text i 0) ++ tokens_from text (i + 1)
-  sign_there i h d l = ap (scan idle i) (drop_more text i 0 h) ∙ sign_at i (get_or text i 0) (drop (i + 1) text) d l
-
-  pub at_end : (i : ℕ) → length text ≤ i → tokens_from text i ≡ []
-  at_end i h = ap (scan idle i) (drop_all i text h)
-
--- the capped value
-pub capped_small : (n : ℕ) → n ≤ 268435455 → capped n ≡ n
-capped_small n h = rw (le-leb n 268435455 h) refl
-
-pub capped_large : (n : ℕ) → 268435455 < n → capped n ≡ 268435456
-capped_large n h = rw (lt-leb n 268435455 h) refl
-
-pub capped_cases : (n v : ℕ) → v ≡ capped n → ((n ≤ 268435455) × (v ≡ n)) ⊎ ((268435455 < n) × (v ≡ 268435456))
-capped_cases n v e =
-    elim (cases_lt 268435455 n) [ inl h ↦ inr (h, e ∙ capped_large n h) | inr h ↦ inl (h, e ∙ capped_small n h) ]
-
-pub capped_digit : (n v d r : ℕ) → v ≡ capped n → r ≡ capped (10 * v + d) → r ≡ capped (10 * n + d)
-capped_digit n v d r e f =
-    elim (capped_cases n v e) [
-      | inl (h, q) ↦ rw q at f
-      | inr (h, q) ↦ f ∙ (capped_large (10 * v + d) (omega arith) ∙ sym (capped_large (10 * n + d) (omega arith)))
+pub over_blanks : (cs : List ℕ) (p : ℕ) → scan idle p cs ≡ scan idle (p + prefix_len blank cs) (drop (prefix_len blank cs) cs)
+over_blanks [] p = refl
+over_blanks (c ∷ cs) p =
+    let n = prefix_len blank cs in
+    elim (cases_Bool (blank c)) [
+      | inl b ↦
+          subst (λ m. scan idle p (c ∷ cs) ≡ scan idle (p + m) (drop m (c ∷ cs))) (sym (prefix_yes blank c cs b))
+          (blank_at p c cs b ∙ (over_blanks cs (p + 1) ∙ ap (λ q. scan idle q (drop n cs)) (next_place p n)))
+      | inr b ↦
+          subst (λ m. scan idle p (c ∷ cs) ≡ scan idle (p + m) (drop m (c ∷ cs))) (sym (prefix_no blank c cs b))
+          (ap (λ q. scan idle q (c ∷ cs)) (this_place p))
     ]
 
-pub digit_bounds : (c : ℕ) → digit c ≡ true → (48 ≤ c) × (c ≤ 57)
-digit_bounds c h = let p = and_parts _ _ h in (leb-true 48 c p.0, leb-true c 57 p.1)
+-- The number that n and more digits are worth, as `worth` counts it.
+abbrev more_worth : ℕ → List ℕ → ℕ
+more_worth n cs = fold (λ m c. 10 * m + (c - 48)) n cs
+
+pub over_digits : (cs : List ℕ) (q n p : ℕ) →
+    scan (digits q n) p cs ≡ number_token q (more_worth n (take (prefix_len digit cs) cs)) ∷ scan idle (p + prefix_len digit cs) (drop (prefix_len digit cs) cs)
+over_digits [] q n p = refl
+over_digits (c ∷ cs) q n p =
+    let k = prefix_len digit cs in
+    elim (cases_Bool (digit c)) [
+      | inl b ↦
+          subst (λ m. scan (digits q n) p (c ∷ cs) ≡ number_token q (more_worth n (take m (c ∷ cs))) ∷ scan idle (p + m) (drop m (c ∷ cs))) (sym (prefix_yes digit c cs b))
+          (digit_more q n p c cs b ∙ (over_digits cs q (10 * n + (c - 48)) (p + 1)
+          ∙ ap (λ i. number_token q (more_worth (10 * n + (c - 48)) (take k cs)) ∷ scan idle i (drop k cs)) (next_place p k)))
+      | inr b ↦
+          subst (λ m. scan (digits q n) p (c ∷ cs) ≡ number_token q (more_worth n (take m (c ∷ cs))) ∷ scan idle (p + m) (drop m (c ∷ cs))) (sym (prefix_no digit c cs b))
+          (digit_ends q n p c cs b ∙ ap (λ i. number_token q n ∷ scan idle i (c ∷ cs)) (this_place p))
+    ]
+
+abbrev pub in_name : ℕ → Bool
+in_name c = letter c || digit c
+
+pub over_letters : (cs : List ℕ) (q : ℕ) (s : List ℕ) (p : ℕ) →
+    scan (letters q s) p cs ≡ name_token q (s ++ take (prefix_len in_name cs) cs) ∷ scan idle (p + prefix_len in_name cs) (drop (prefix_len in_name cs) cs)
+over_letters [] q s p = ap (λ l. name_token q l ∷ []) (sym (append-nil s))
+over_letters (c ∷ cs) q s p =
+    let k = prefix_len in_name cs in
+    elim (cases_Bool (letter c || digit c)) [
+      | inl b ↦
+          subst (λ m. scan (letters q s) p (c ∷ cs) ≡ name_token q (s ++ take m (c ∷ cs)) ∷ scan idle (p + m) (drop m (c ∷ cs))) (sym (prefix_yes in_name c cs b))
+          (letter_more q s p c cs b ∙ (over_letters cs q (s ++ (c ∷ [])) (p + 1)
+          ∙ (ap (λ i. name_token q ((s ++ (c ∷ [])) ++ take k cs) ∷ scan idle i (drop k cs)) (next_place p k)
+          ∙ ap (λ l. name_token q l ∷ scan idle (p + suc k) (drop k cs)) (append_assoc s (c ∷ []) (take k cs)))))
+      | inr b ↦
+          subst (λ m. scan (letters q s) p (c ∷ cs) ≡ name_token q (s ++ take m (c ∷ cs)) ∷ scan idle (p + m) (drop m (c ∷ cs))) (sym (prefix_no in_name c cs b))
+          (letter_ends q s p c cs b ∙ (ap (λ i. name_token q s ∷ scan idle i (c ∷ cs)) (this_place p)
+          ∙ ap (λ l. name_token q l ∷ scan idle (p + 0) (c ∷ cs)) (sym (append-nil s))))
+    ]
+
+-- ---- what bytes begin with
+pub goes : (text : List ℕ) (k : Kind) (p e : ℕ) → IsToken k → then_from text k p e ≡ token_of text k p e ∷ tokens_from text e
+goes text (Number n) p e t = refl
+goes text Name p e t = refl
+goes text (Operator o) p e t = refl
+goes text (Word w) p e t = refl
+goes text (Bad c) p e t = refl
+goes text End p e t = absurd t
+
+pub proper : (k : Kind) (n len : ℕ) → IsToken k → 0 < n → Proper k 0 n len
+proper (Number n) e len t h = h
+proper Name e len t h = h
+proper (Operator o) e len t h = h
+proper (Word w) e len t h = h
+proper (Bad c) e len t h = h
+proper End e len t h = absurd t
+
+-- the same at a place further on
+pub proper_at : (k : Kind) (n len p all : ℕ) → p + len ≡ all → Proper k 0 n len → Proper k p (p + n) all
+proper_at (Number n) e len p all g h = omega arith
+proper_at Name e len p all g h = omega arith
+proper_at (Operator o) e len p all g h = omega arith
+proper_at (Word w) e len p all g h = omega arith
+proper_at (Bad c) e len p all g h = omega arith
+proper_at End e len p all g h = omega arith
+
+part_of : (text cs : List ℕ) (p n : ℕ) → drop p text ≡ cs → between p (p + n) text ≡ take n cs
+part_of text cs p n e = let g : (p + n) - p ≡ n = omega arith in ap (λ m. take m (drop p text)) g ∙ ap (take n) e
+
+rest_of : (text cs : List ℕ) (p n : ℕ) → drop p text ≡ cs → drop n cs ≡ drop (p + n) text
+rest_of text cs p n e = ap (drop n) (sym e) ∙ drop-drop n p text
+
+-- bytes whose first n are a token of the kind k
+pub begins : (cs : List ℕ) (k : Kind) (n : ℕ) (t : ℕ → List Token) → 0 < n → n ≤ length cs → Stands t (take n cs) k → Unbroken cs 0 n →
+    ((p : ℕ) → scan idle p cs ≡ t p ++ scan idle (p + n) (drop n cs)) → Begins cs k n
+begins cs k n t a b s u r = record {
+  fits = b;
+  proper = proper k n (length cs) s.1.0 a;
+  small = s.1.1;
+  unbroken = u;
+  reads = λ text p e. ap (scan idle p) e ∙ (r p ∙ (ap (λ ts. ts ++ scan idle (p + n) (drop n cs)) (s.0 text p (p + n) (part_of text cs p n e))
+      ∙ (ap (λ l. token_of text k p (p + n) ∷ scan idle (p + n) l) (rest_of text cs p n e) ∙ sym (goes text k p (p + n) s.1.0))));
+}
 
 -- digits and letters are no blanks
-solid : (c : ℕ) → 48 ≤ c → blank c ≡ false
+pub solid : (c : ℕ) → 48 ≤ c → blank c ≡ false
 solid c h =
     elim (cases_Bool (blank c)) [
       | inl b ↦
@@ -143,7 +179,7 @@ solid c h =
     ]
 
 pub digit_solid : (c : ℕ) → digit c ≡ true → blank c ≡ false
-digit_solid c h = solid c (digit_bounds c h).0
+digit_solid c h = solid c (leb-true 48 c (and_parts _ _ h).0)
 
 pub letter_solid : (c : ℕ) → letter c ≡ true → blank c ≡ false
 letter_solid c h =
@@ -152,39 +188,154 @@ letter_solid c h =
       | inr a ↦ let g = leb-true 65 c (and_parts (leb 65 c) (leb c 90) a).0 in solid c (omega arith)
     ]
 
-pub name_solid : (c : ℕ) → (letter c || digit c) ≡ true → blank c ≡ false
+pub name_solid : (c : ℕ) → in_name c ≡ true → blank c ≡ false
 name_solid c h = elim (or_cases (letter c) (digit c) h) [ inl a ↦ letter_solid c a | inr a ↦ digit_solid c a ]
 
-pub unbroken_none : (text : List ℕ) (p : ℕ) → Unbroken text p p
-unbroken_none text p k a b = absurd (omega arith)
+-- the classes of std, whose letters stand the other way round
+or_swap : (x y : Bool) → (x || y) ≡ (y || x)
+or_swap true true = refl
+or_swap true false = refl
+or_swap false true = refl
+or_swap false false = refl
 
-pub unbroken_more : (text : List ℕ) (p i : ℕ) → Unbroken text p i → blank (get_or text i 0) ≡ false → Unbroken text p (i + 1)
-unbroken_more text p i u h k a b =
-    elim (cases_lt k i) [
-      | inl g ↦ u k a g
-      | inr g ↦ let e : i ≡ k = omega arith in subst (λ j. blank (get_or text j 0) ≡ false) e h
-    ]
+pub letter_is : (c : ℕ) → is_ascii_alphabetic c ≡ letter c
+letter_is c = or_swap (leb 65 c && leb c 90) (leb 97 c && leb c 122)
 
-pub goes : (text : List ℕ) (k : Kind) (p e : ℕ) → IsToken k → then_from text k p e ≡ token_of text k p e ∷ tokens_from text e
-goes text (Number n) p e t = refl
-goes text Name p e t = refl
-goes text (Operator o) p e t = refl
-goes text (Word w) p e t = refl
-goes text (Bad c) p e t = refl
-goes text End p e t = absurd t
+or_turn : (x y z : Bool) → ((x || y) || z) ≡ ((z || y) || x)
+or_turn true y true = refl
+or_turn true true false = refl
+or_turn true false false = refl
+or_turn false true true = refl
+or_turn false false true = refl
+or_turn false true false = refl
+or_turn false false false = refl
 
-pub proper : (k : Kind) (p e len : ℕ) → IsToken k → p < e → Proper k p e len
-proper (Number n) p e len t h = h
-proper Name p e len t h = h
-proper (Operator o) p e len t h = h
-proper (Word w) p e len t h = h
-proper (Bad c) p e len t h = h
-proper End p e len t h = absurd t
+pub in_name_is : (c : ℕ) → is_ascii_alphanumeric c ≡ in_name c
+in_name_is c = or_turn (leb 48 c && leb c 57) (leb 65 c && leb c 90) (leb 97 c && leb c 122)
 
-pub signed : (text : List ℕ) (k : Kind) (p c : ℕ) → IsToken k → sign p c ≡ token_of text k p (p + 1) ∷ [] → tokens_from text p ≡ sign p c ++ tokens_from text (p + 1) →
-    tokens_from text p ≡ then_from text k p (p + 1)
-signed text k p c t s g = g ∙ (ap (λ l. l ++ tokens_from text (p + 1)) s ∙ sym (goes text k p (p + 1) t))
+-- ---- a number and a name
+-- A run that bytes begin with: how long it is.
+pub run_is : (test : ℕ → Bool) (cs : List ℕ) (n : ℕ) → n ≤ length cs → ((k : ℕ) → k < n → test (get_or cs k 0) ≡ true) →
+    (n < length cs → test (get_or cs n 0) ≡ false) → prefix_len test cs ≡ n
+run_is test cs n b h g = prefix_len_is test cs n 0 b h g
 
-pub spelled : (text : List ℕ) (k : Kind) (p e : ℕ) → IsToken k → name_token p (between p e text) ≡ token_of text k p e →
-    tokens_from text p ≡ name_token p (between p e text) ∷ tokens_from text e → tokens_from text p ≡ then_from text k p e
-spelled text k p e t s g = g ∙ (ap (λ u. u ∷ tokens_from text e) s ∙ sym (goes text k p e t))
+pub unbroken_by : (test : ℕ → Bool) (cs : List ℕ) (n : ℕ) → ((c : ℕ) → test c ≡ true → blank c ≡ false) →
+    ((k : ℕ) → k < n → test (get_or cs k 0) ≡ true) → Unbroken cs 0 n
+unbroken_by test cs n f h k a b = f (get_or cs k 0) (h k b)
+
+number_at : (cs : List ℕ) (p : ℕ) → 0 < length cs → digit (get_or cs 0 0) ≡ true →
+    scan idle p cs ≡ number_token p (worth (take (prefix_len digit cs) cs)) ∷ scan idle (p + prefix_len digit cs) (drop (prefix_len digit cs) cs)
+number_at [] p l h = absurd (omega arith)
+number_at (c ∷ cs) p l h =
+    let k = prefix_len digit cs in
+    subst (λ m. scan idle p (c ∷ cs) ≡ number_token p (worth (take m (c ∷ cs))) ∷ scan idle (p + m) (drop m (c ∷ cs))) (sym (prefix_yes digit c cs h))
+    (digit_begins p c cs h ∙ (ap (λ n. scan (digits p n) (p + 1) cs) (let e : c - 48 ≡ 0 + (c - 48) = omega arith in e) ∙ (over_digits cs p (0 + (c - 48)) (p + 1)
+    ∙ ap (λ i. number_token p (more_worth (0 + (c - 48)) (take k cs)) ∷ scan idle i (drop k cs)) (next_place p k))))
+
+name_at : (cs : List ℕ) (p : ℕ) → 0 < length cs → letter (get_or cs 0 0) ≡ true → digit (get_or cs 0 0) ≡ false →
+    scan idle p cs ≡ name_token p (take (prefix_len in_name cs) cs) ∷ scan idle (p + prefix_len in_name cs) (drop (prefix_len in_name cs) cs)
+name_at [] p l h d = absurd (omega arith)
+name_at (c ∷ cs) p l h d =
+    let k = prefix_len in_name cs in
+    subst (λ m. scan idle p (c ∷ cs) ≡ name_token p (take m (c ∷ cs)) ∷ scan idle (p + m) (drop m (c ∷ cs))) (sym (prefix_yes in_name c cs (or_left _ _ h)))
+    (letter_begins p c cs h d ∙ (over_letters cs p (c ∷ []) (p + 1)
+    ∙ ap (λ i. name_token p (c ∷ take k cs) ∷ scan idle i (drop k cs)) (next_place p k)))
+
+first_in : (test : ℕ → Bool) (cs : List ℕ) (n : ℕ) → 0 < length cs → test (get_or cs 0 0) ≡ true → (n < length cs → test (get_or cs n 0) ≡ false) → 0 < n
+first_in test cs zero l h g = absurd (let e = sym h ∙ g l in cc)
+first_in test cs (suc n) l h g = omega arith
+
+pub number_begins : (cs : List ℕ) (k : Kind) (n : ℕ) → 0 < length cs → digit (get_or cs 0 0) ≡ true →
+    n ≤ length cs → ((i : ℕ) → i < n → digit (get_or cs i 0) ≡ true) → (n < length cs → digit (get_or cs n 0) ≡ false) →
+    Stands (λ p. number_token p (worth (take n cs)) ∷ []) (take n cs) k → Begins cs k n
+number_begins cs k n l d b h g s =
+    begins cs k n _ (first_in digit cs n l d g) b s (unbroken_by digit cs n digit_solid h)
+    (λ p. subst (λ m. scan idle p cs ≡ number_token p (worth (take m cs)) ∷ scan idle (p + m) (drop m cs)) (run_is digit cs n b h g) (number_at cs p l d))
+
+pub name_begins : (cs : List ℕ) (k : Kind) (n : ℕ) → 0 < length cs → letter (get_or cs 0 0) ≡ true → digit (get_or cs 0 0) ≡ false →
+    n ≤ length cs → ((i : ℕ) → i < n → in_name (get_or cs i 0) ≡ true) → (n < length cs → in_name (get_or cs n 0) ≡ false) →
+    Stands (λ p. name_token p (take n cs) ∷ []) (take n cs) k → Begins cs k n
+name_begins cs k n l d z b h g s =
+    begins cs k n _ (first_in in_name cs n l (or_left _ _ d) g) b s (unbroken_by in_name cs n name_solid h)
+    (λ p. subst (λ m. scan idle p cs ≡ name_token p (take m cs) ∷ scan idle (p + m) (drop m cs)) (run_is in_name cs n b h g) (name_at cs p l d z))
+
+pub sign_begins : (cs : List ℕ) (k : Kind) → 0 < length cs → digit (get_or cs 0 0) ≡ false → letter (get_or cs 0 0) ≡ false →
+    blank (get_or cs 0 0) ≡ false → Stands (λ p. sign p (get_or cs 0 0)) (get_or cs 0 0 ∷ []) k → Begins cs k 1
+sign_begins [] k l d z b s = absurd (omega arith)
+sign_begins (c ∷ cs) k l d z b s =
+    begins (c ∷ cs) k 1 _ (omega arith) (omega arith) s
+    (λ i a h. let e : 0 ≡ i = omega arith in subst (λ j. blank (get_or (c ∷ cs) j 0) ≡ false) e b)
+    (λ p. sign_at p c cs d z)
+
+pub end_begins : (cs : List ℕ) → length cs ≡ 0 → Begins cs End 0
+end_begins [] e = record { fits = omega arith; proper = refl; small = tt; unbroken = λ k a b. absurd (omega arith); reads = λ text p g. ap (scan idle p) g }
+end_begins (c ∷ cs) e = absurd (omega arith)
+
+-- ---- a value that saturates
+abbrev more : ℕ → ℕ → ℕ
+more v c = min (min (v * 10) 4294967295 + (c - 48)) 4294967295
+
+pub saturates : (cs : List ℕ) → fold more 0 cs ≡ min (worth cs) 4294967295
+saturates cs = fold_along more (λ n c. 10 * n + (c - 48)) (λ v n. v ≡ min n 4294967295) (λ v n c h. omega arith) 0 0 cs refl
+
+pub number_small : (cs : List ℕ) (v : ℕ) → v ≡ fold more 0 cs → v ≤ 268435455 → Stands (λ p. number_token p (worth cs) ∷ []) cs (Number v)
+number_small cs v e h =
+    let s = saturates cs in let g : worth cs ≡ v = omega arith in
+    ((λ text p e b. rw (g, le-leb v 268435455 h) refl), (tt, h))
+
+pub number_large : (cs : List ℕ) (v : ℕ) → v ≡ fold more 0 cs → 268435455 < v → Stands (λ p. number_token p (worth cs) ∷ []) cs (Bad NumberTooLarge)
+number_large cs v e h =
+    let s = saturates cs in let g : 268435455 < worth cs = omega arith in
+    ((λ text p e b. rw (lt-leb (worth cs) 268435455 g) refl), (tt, tt))
+
+-- ---- reserved words
+-- The length and the bytes of s are those of no reserved word.
+pub record Unreserved (s : List ℕ) : Type 0 where
+  pub not_let : length s ≡ 3 → get_or s 0 0 ≡ 108 → get_or s 1 0 ≡ 101 → get_or s 2 0 ≡ 116 → ⊥
+  pub not_in : length s ≡ 2 → get_or s 0 0 ≡ 105 → get_or s 1 0 ≡ 110 → ⊥
+  pub not_ifp : length s ≡ 3 → get_or s 0 0 ≡ 105 → get_or s 1 0 ≡ 102 → get_or s 2 0 ≡ 112 → ⊥
+  pub not_then : length s ≡ 4 → get_or s 0 0 ≡ 116 → get_or s 1 0 ≡ 104 → get_or s 2 0 ≡ 101 → get_or s 3 0 ≡ 110 → ⊥
+  pub not_else : length s ≡ 4 → get_or s 0 0 ≡ 101 → get_or s 1 0 ≡ 108 → get_or s 2 0 ≡ 115 → get_or s 3 0 ≡ 101 → ⊥
+  pub not_div : length s ≡ 3 → get_or s 0 0 ≡ 100 → get_or s 1 0 ≡ 105 → get_or s 2 0 ≡ 118 → ⊥
+  pub not_weigh : length s ≡ 5 → get_or s 0 0 ≡ 119 → get_or s 1 0 ≡ 101 → get_or s 2 0 ≡ 105 → get_or s 3 0 ≡ 103 → get_or s 4 0 ≡ 104 → ⊥
+
+unspelled : (s w : List ℕ) → (s ≡ w → ⊥) → bytes_eq s w ≡ false
+unspelled s w h = elim (cases_Bool (bytes_eq s w)) [ inl e ↦ absurd (h ((bytes_eq-Decides s w).0 e)) | inr e ↦ e ]
+
+pub plain_name : (s : List ℕ) → Unreserved s → length s ≤ 16 → Stands (λ p. name_token p s ∷ []) s Name
+plain_name s u l =
+    let a = unspelled s (codes "let") (λ e. u.not_let (ap length e) (ap (λ t. get_or t 0 0) e) (ap (λ t. get_or t 1 0) e) (ap (λ t. get_or t 2 0) e)) in
+    let b = unspelled s (codes "in") (λ e. u.not_in (ap length e) (ap (λ t. get_or t 0 0) e) (ap (λ t. get_or t 1 0) e)) in
+    let c = unspelled s (codes "ifp") (λ e. u.not_ifp (ap length e) (ap (λ t. get_or t 0 0) e) (ap (λ t. get_or t 1 0) e) (ap (λ t. get_or t 2 0) e)) in
+    let d = unspelled s (codes "then") (λ e. u.not_then (ap length e) (ap (λ t. get_or t 0 0) e) (ap (λ t. get_or t 1 0) e) (ap (λ t. get_or t 2 0) e) (ap (λ t. get_or t 3 0) e)) in
+    let f = unspelled s (codes "else") (λ e. u.not_else (ap length e) (ap (λ t. get_or t 0 0) e) (ap (λ t. get_or t 1 0) e) (ap (λ t. get_or t 2 0) e) (ap (λ t. get_or t 3 0) e)) in
+    let g = unspelled s (codes "div") (λ e. u.not_div (ap length e) (ap (λ t. get_or t 0 0) e) (ap (λ t. get_or t 1 0) e) (ap (λ t. get_or t 2 0) e)) in
+    let h = unspelled s (codes "weigh") (λ e. u.not_weigh (ap length e) (ap (λ t. get_or t 0 0) e) (ap (λ t. get_or t 1 0) e) (ap (λ t. get_or t 2 0) e) (ap (λ t. get_or t 3 0) e) (ap (λ t. get_or t 4 0) e)) in
+    ((λ text p e b'. simp (a, b, c, d, f, g, h, le-leb (length s) 16 l) (ap (λ t. AName (record { place = p; name = t }) ∷ []) (sym b'))), (tt, tt))
+
+-- ---- the text
+pub after_blanks : (text cs : List ℕ) (at from n : ℕ) → cs ≡ drop from text → from ≡ min at (length text) → n ≤ length cs →
+    ((k : ℕ) → k < n → blank (get_or cs k 0) ≡ true) → (n < length cs → blank (get_or cs n 0) ≡ false) → tokens_from text at ≡ tokens_from text (from + n)
+after_blanks text cs at from n e m b h g =
+    let same : tokens_from text at ≡ tokens_from text from =
+    elim (cases_lt at (length text)) [
+      | inl l ↦ ap (tokens_from text) (let q : at ≡ from = omega arith in q)
+      | inr l ↦ ap (scan idle at) (drop_all at text l) ∙ sym (ap (scan idle from) (drop_all from text (omega arith)))
+    ] in
+    same ∙ (ap (scan idle from) (sym e) ∙ (subst (λ k. scan idle from cs ≡ scan idle (from + k) (drop k cs)) (run_is blank cs n b h g) (over_blanks cs from)
+    ∙ ap (scan idle (from + n)) (rest_of text cs from n (sym e))))
+
+pub not_blank : (text cs ds : List ℕ) (from n : ℕ) → cs ≡ drop from text → ds ≡ drop (from + n) text →
+    (n < length cs → blank (get_or cs n 0) ≡ false) → 0 < length ds → blank (get_or ds 0 0) ≡ false
+not_blank text cs ds from n e f g l =
+    let q : ds ≡ drop n cs = f ∙ sym (rest_of text cs from n (sym e)) in
+    let a : get_or ds 0 0 ≡ get_or cs (n + 0) 0 = ap (λ t. get_or t 0 0) q ∙ get_or-drop n cs 0 0 in
+    let b : n + 0 ≡ n = omega arith in
+    let c : length ds ≡ length cs - n = ap length q ∙ length-drop n cs in
+    ap blank (a ∙ ap (λ i. get_or cs i 0) b) ∙ g (omega arith)
+
+pub unbroken_at : (text ds : List ℕ) (p n : ℕ) → ds ≡ drop p text → Unbroken ds 0 n → Unbroken text p (p + n)
+unbroken_at text ds p n e u k a b =
+    let g : p + (k - p) ≡ k = omega arith in
+    let h : get_or ds (k - p) 0 ≡ get_or text k 0 = ap (λ t. get_or t (k - p) 0) e ∙ (get_or-drop p text (k - p) 0 ∙ ap (λ i. get_or text i 0) g) in
+    sym (ap blank h) ∙ u (k - p) (omega arith) (omega arith)

@@ -1,9 +1,9 @@
 -- What the next token promises.
-use Rattle.std.specs.Prelude.{◌≡◌, ℕ, ◌<◌, ◌≤◌, false, cond, List, [], ◌∷◌, length, drop, nat_le, slice_index}
-use Rattle.std.specs.List.{between}
+use Rattle.std.specs.Prelude.{◌≡◌, ℕ, ◌+◌, ◌-◌, ◌*◌, ◌<◌, ◌≤◌, false, List, [], ◌∷◌, length, drop, slice_index}
+use Rattle.std.specs.List.{between, fold}
 use Rattle.recipe.specs.Causes.{cause_number}
 use Rattle.recipe.specs.Tokens.{Token, Number as ANumber, Name as AName, Operator as AnOperator, TheWord, Bad as ABad}
-use Rattle.recipe.specs.Tokens.{scan, idle, blank, number_token, name_token, sign}
+use Rattle.recipe.specs.Tokens.{scan, idle, blank}
 use Rattle.lexer.specs.declared.Kind.{Kind}
 use Rattle.lexer.specs.declared.Kind.TheVariants.{Number, Name, Operator, Word, Bad, End}
 use Rattle.lexer.specs.declared.Lexeme.{Lexeme}
@@ -80,18 +80,18 @@ OneAnswer =
     (text : List ℕ) (at : ℕ) (l m : Lexeme) → Promised text at l → Promised text at m →
     (l.kind ≡ m.kind) × (l.start ≡ m.start) × (l.end ≡ m.end)
 
--- A number's value up to the limit, and one more for any larger value.
-abbrev pub capped : ℕ → ℕ
-capped n = cond (nat_le n 268435455) n 268435456
+-- The number that digits are worth.
+abbrev pub worth : List ℕ → ℕ
+worth cs = fold (λ n c. 10 * n + (c - 48)) 0 cs
 
--- The digits from p to e are a whole number, whose value v stands for.
-abbrev pub NumberRead : List ℕ → ℕ → ℕ → ℕ → Type 0
-NumberRead text p v e = (n : ℕ) × (v ≡ capped n) × (tokens_from text p ≡ number_token p n ∷ tokens_from text e)
+-- The kind k is a token, and the one that the bytes cs are wherever they stand, where at the place p they give t p.
+abbrev pub Stands : (ℕ → List Token) → List ℕ → Kind → Type 0
+Stands t cs k = ((text : List ℕ) (p e : ℕ) → between p e text ≡ cs → t p ≡ token_of text k p e ∷ []) × ((IsToken k) × (Small k))
 
--- The letters and digits from p to e are a whole name or reserved word.
-abbrev pub NameEnds : List ℕ → ℕ → ℕ → Type 0
-NameEnds text p e = tokens_from text p ≡ name_token p (between p e text) ∷ tokens_from text e
-
--- The byte c stands alone for a token of the kind k.
-abbrev pub Signed : ℕ → Kind → Type 0
-Signed c k = (text : List ℕ) (p e : ℕ) → sign p c ≡ token_of text k p e ∷ []
+-- The bytes cs begin with a token of the kind k that takes n of them, and no blank stands among these; no byte is the end.
+pub record Begins (cs : List ℕ) (k : Kind) (n : ℕ) : Type 0 where
+  pub fits : n ≤ length cs
+  pub proper : Proper k 0 n (length cs)
+  pub small : Small k
+  pub unbroken : Unbroken cs 0 n
+  pub reads : (text : List ℕ) (p : ℕ) → drop p text ≡ cs → tokens_from text p ≡ then_from text k p (p + n)

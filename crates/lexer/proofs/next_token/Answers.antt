@@ -1,38 +1,32 @@
-use Rattle.std.proofs.Common.{◌+◌, ◌<◌, length, get_or, sym, refl, ◌∙◌, arith}
-use Rattle.lexer.proofs.Scans.{at_end, sign_there, signed, proper, unbroken_none, unbroken_more}
+use Rattle.std.proofs.Common.{rules, ◌+◌, length, sym, ap, ◌∙◌, arith}
+use Rattle.std.proofs.lemmas.List.{length-drop}
+use Rattle.std.proofs.lemmas.Slice.{between_to_end}
+use Rattle.lexer.proofs.Scans.{after_blanks, not_blank, unbroken_at}
 use Rattle.lexer.proofs.next_token.Goals as goal
 
-pub returns-then-at-text : goal.returns-then-at-text
-returns-then-at-text c =
+pub overflow_add-start : goal.overflow_add-start
+overflow_add-start c =
     let text = c.args.text.now in
-    record {
-      valid = (omega arith, (omega arith, omega arith, refl));
-      reads = at_end text c.args.at (omega arith);
-      small = tt;
-      unbroken = unbroken_none text (length text);
-    }
+    let e = ap length (between_to_end text c.min-from.result (length text) (omega arith)) ∙ length-drop c.min-from.result text in
+    let w = c.front.ensures.within in
+    omega arith
 
-pub returns-then-start-text : goal.returns-then-start-text
-returns-then-start-text c =
+pub first_token-kind-requires : goal.first_token-kind-requires
+first_token-kind-requires c =
     let text = c.args.text.now in
-    let p = c.past_blanks-start.result in
-    record {
-      valid = (omega arith, (omega arith, omega arith, c.if-start-text.true));
-      reads = c.past_blanks-start.ensures.same ∙ at_end text p (omega arith);
-      small = tt;
-      unbroken = unbroken_none text p;
-    }
+    not_blank text _ _ c.min-from.result c.front.result (between_to_end text c.min-from.result (length text) (omega arith))
+    (between_to_end text (c.min-from.result + c.front.result) (length text) (omega arith))
+    (λ h. let p = c.front.ensures.stops h in search rules)
 
-pub returns : goal.returns
-returns c =
-    let p = c.past_blanks-start.result in
+pub returns-clause-reads : goal.returns-clause-reads
+returns-clause-reads c =
     let text = c.args.text.now in
-    let h : p < length text = omega arith in
-    let s = c.sign-kind.ensures in
-    record {
-      valid = (omega arith, (omega arith, omega arith, proper c.sign-kind.result p (p + 1) (length text) s.1.0 (omega arith)));
-      reads = c.past_blanks-start.ensures.same ∙ signed text c.sign-kind.result p (get_or text p 0) s.1.0 (s.0 text p (p + 1))
-          (sign_there text p h (sym c.if-is_digit.ensures) (sym c.if-is_letter.ensures));
-      small = s.1.1;
-      unbroken = unbroken_more text p p (unbroken_none text p) (c.past_blanks-start.ensures.stops h);
-    }
+    after_blanks text _ c.args.at c.min-from.result c.front.result (between_to_end text c.min-from.result (length text) (omega arith)) c.min-from.ensures
+    c.front.ensures.within (λ k h. let p = c.front.ensures.passes k h in search rules) (λ h. let p = c.front.ensures.stops h in search rules)
+    ∙ c.first_token-kind.ensures.reads text (c.min-from.result + c.front.result) (sym (between_to_end text (c.min-from.result + c.front.result) (length text) (omega arith)))
+
+pub returns-clause-unbroken : goal.returns-clause-unbroken
+returns-clause-unbroken c =
+    let text = c.args.text.now in
+    unbroken_at text _ (c.min-from.result + c.front.result) c.first_token-kind.result.1
+    (between_to_end text (c.min-from.result + c.front.result) (length text) (omega arith)) c.first_token-kind.ensures.unbroken
