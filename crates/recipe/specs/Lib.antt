@@ -1,6 +1,7 @@
 -- Read Tokens, Grammar, Within, Names, Frames, Image, Compiled and Theorem, with the examples in Worked.
 -- Machine and Limits say at which token a text is refused.
 pub mod Causes
+pub mod Words
 pub mod Tokens
 pub mod Grammar
 pub mod Machine
