@@ -1,8 +1,8 @@
 -- The value of digits, one after another.
-use Rattle.std.proofs.Common.{◌≡◌, ℕ, ◌+◌, ◌<◌, ◌≤◌, Bool, true, false, cond, ◌&&◌, leb, List, [], ◌∷◌, length, get_or, drop, Some, None, Ok, Err, Option, Result, sym, refl, ap, ◌∙◌, subst, inl, inr, arith}
-use Rattle.std.specs.Result.{OkIff, result_ok}
+use Rattle.std.proofs.Common.{◌≡◌, ℕ, ◌+◌, ◌<◌, ◌≤◌, Bool, true, false, cond, ◌&&◌, leb, List, [], ◌∷◌, length, get_or, drop, Some, None, Option, sym, refl, ap, ◌∙◌, subst, inl, inr, arith}
+use Rattle.std.specs.Bool.{then_some}
 use Rattle.std.proofs.lemmas.List.{drop_more, drop_all}
-use Rattle.std.proofs.lemmas.Bool.{and_parts, and_cases, and_from, and_left, and_right, lt-leb, le-leb, leb-true, leb-false, cond-true, cond-false, cases_lt}
+use Rattle.std.proofs.lemmas.Bool.{and_parts, and_cases, and_left, and_right, lt-leb, le-leb, leb-true, leb-false, cond-false}
 use Rattle.command.specs.Numbers.{digit, all_digits, with_digit, decimal_after, decimal, value_in, below_zero_in, grams_in}
 use Rattle.command.specs.Laws.{Bounded}
 
@@ -17,6 +17,10 @@ some_if false v n e = let z : ◌≡◌ {A = ℕ} 0 1 = cc in absurd (omega arit
 none_if : (t : Bool) (n : ℕ) → ◌≡◌ {A = Option ℕ} None (cond t (Some n) None) → t ≡ false
 none_if true n e = let z : ◌≡◌ {A = ℕ} 0 1 = cc in absurd (omega arith)
 none_if false n e = refl
+
+chosen : (t : Bool) (n : ℕ) → then_some t n ≡ cond t (Some n) None
+chosen true n = refl
+chosen false n = refl
 
 -- The digits before the place i have the value v.
 pub record ReadTo (xs : List ℕ) (i v : ℕ) : Type 0 where
@@ -42,7 +46,7 @@ module _ (xs : List ℕ) where
   not_digits : (limit : ℕ) → all_digits xs ≡ false → None ≡ value_in limit xs
   not_digits limit e = sym (cond-false _ (Some (decimal xs)) None (and_right (leb 1 (length xs)) _ (and_left (all_digits xs) _ e)))
 
-  pub too_large : (limit : ℕ) → limit < decimal xs → None ≡ value_in limit xs
+  too_large : (limit : ℕ) → limit < decimal xs → None ≡ value_in limit xs
   too_large limit h =
       sym (cond-false _ (Some (decimal xs)) None (and_right (leb 1 (length xs)) _ (and_right (all_digits xs) _ (lt-leb (decimal xs) limit h))))
 
@@ -62,9 +66,10 @@ module _ (xs : List ℕ) where
   pub whole : (i v : ℕ) → length xs ≤ i → ReadTo xs i v → (v ≡ decimal xs) × (all_digits xs ≡ true)
   whole i v h r = (sym (ap (decimal_after v) (drop_all i xs h)) ∙ r.sum, sym r.digits ∙ ap all_digits (drop_all i xs h))
 
-  pub fits : (limit : ℕ) → 0 < length xs → all_digits xs ≡ true → decimal xs ≤ limit → Some (decimal xs) ≡ value_in limit xs
-  fits limit l d h =
-      sym (cond-true _ (Some (decimal xs)) None (and_from (leb 1 (length xs)) _ (le-leb 1 (length xs) (omega arith)) (and_from (all_digits xs) _ d (le-leb (decimal xs) limit h))))
+  pub all_read : (limit v : ℕ) → 0 < length xs → v ≡ decimal xs → all_digits xs ≡ true → then_some (leb v limit) v ≡ value_in limit xs
+  all_read limit v some e d =
+      ap (λ n. then_some (leb n limit) n) e ∙ (chosen (leb (decimal xs) limit) (decimal xs) ∙ sym (ap (λ t. cond (t && (all_digits xs && leb (decimal xs) limit)) (Some (decimal xs)) None) (le-leb 1 (length xs) (omega arith)) ∙
+      ap (λ t. cond (t && leb (decimal xs) limit) (Some (decimal xs)) None) d))
 
 pub minus : (w : List ℕ) → 0 < length w → get_or w 0 0 ≡ 45 → below_zero_in (drop 1 w) ≡ grams_in w
 minus [] l e = absurd (omega arith)
@@ -78,13 +83,3 @@ bounded limit w n e =
 
 pub number_bounded : (w : List ℕ) → Bounded w
 number_bounded w n e = let h = bounded 4294967295 w n (sym e) in omega arith
-
--- A sum that is turned into 32 bits where it fits them.
-pub longer_is : {E : Type 0} (v b n : ℕ) (r : Result ℕ E) → 48 ≤ b → b ≤ 57 → n ≡ with_digit v b → OkIff r (n < 4294967296) n → With v b (result_ok r)
-longer_is v b n (Ok x) low high e h =
-    ap Some (h.1 ∙ e) ∙
-    sym (cond-true _ (Some (with_digit v b)) None
-    (and_from (digit b) _ (and_from (leb 48 b) _ (le-leb 48 b low) (le-leb b 57 high)) (le-leb (with_digit v b) 4294967295 (omega (arith, h.0)))))
-longer_is v b n (Err d) low high e h =
-    let large : 4294967295 < with_digit v b = elim (cases_lt n 4294967296) [ inl s ↦ absurd (h s) | inr s ↦ omega arith ] in
-    sym (cond-false _ (Some (with_digit v b)) None (and_right (digit b) _ (lt-leb (with_digit v b) 4294967295 large)))

@@ -2,7 +2,9 @@ pub mod Words
 pub mod Left
 pub mod Numbers
 pub mod Names
+pub mod Arguments
 pub mod Understood
 pub mod OfRecipes
+pub mod Trimmed
 pub mod Laws
 pub mod Worked

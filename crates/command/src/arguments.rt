@@ -1,74 +1,71 @@
-// One argument of a command: the next word, read as what is wanted there.
-ghost use Rattle.std.specs.Prelude.{◌≡◌};
+// The arguments of a command, one after another.
+ghost use Rattle.std.specs.Prelude.{◌≡◌, ℕ, List, Option};
 ghost use Rattle.command.specs.Words.{later};
 ghost use Rattle.command.specs.Left.{left};
-ghost use Rattle.command.specs.Numbers.{number_in, grams_in};
-ghost use Rattle.command.specs.Names.{mark_in, pile_in, counting_in};
-ghost use Rattle.command.specs.Understood.{argument, ended};
-ghost use Rattle.command.specs.declared.types.Wanted.TheVariants as the;
+ghost use Rattle.command.specs.Arguments.{argument, ended, heard, sole, word_in};
 
-use crate::names::{counting, mark, pile};
-use crate::numbers::{grams, number};
-use crate::types::{Counting, Misreading, Pile, Verb, Wanted};
+use crate::misread::Misread;
 use crate::words::Words;
 
-pub(crate) fn next_number(line: &mut Words, verb: Verb, wanted: Wanted) -> Result<u32, Misreading>
-    ensures value { result ≡ argument verb wanted number_in (left line.old) }
-    ensures rest { left line.new ≡ later (left line.old) }
-{
-    if line.is_done() {
-        return Err(Misreading::Missing(verb, wanted));
-    }
-    number(line.next()).ok_or(Misreading::Wrong(verb, wanted))
+// A value that a word is read as.
+pub(crate) trait FromWord: Sized {
+    // What a word means where such a value is wanted.
+    ghost read: { List ℕ → Option Self };
+
+    fn from_word(word: &[u8]) -> Option<Self>
+        ensures { result ≡ read word.now };
 }
 
-pub(crate) fn next_grams(line: &mut Words, verb: Verb) -> Result<i32, Misreading>
-    ensures value { result ≡ argument verb the.Grams grams_in (left line.old) }
-    ensures rest { left line.new ≡ later (left line.old) }
-{
-    if line.is_done() {
-        return Err(Misreading::Missing(verb, Wanted::Grams));
-    }
-    grams(line.next()).ok_or(Misreading::Wrong(verb, Wanted::Grams))
+// The words that are left after a command's name, and which command it is.
+#[derive(Drop)]
+pub(crate) struct Arguments<'a, V> {
+    pub words: Words<'a>,
+    pub verb: V,
 }
 
-pub(crate) fn next_mark(line: &mut Words, verb: Verb) -> Result<bool, Misreading>
-    ensures value { result ≡ argument verb the.Mark mark_in (left line.old) }
-    ensures rest { left line.new ≡ later (left line.old) }
-{
-    if line.is_done() {
-        return Err(Misreading::Missing(verb, Wanted::Mark));
+impl<'a, V: Copy> Arguments<'a, V> {
+    // The next word, whatever it says.
+    pub(crate) fn next_word<W>(&mut self, wanted: W) -> Result<&'a [u8], Misread<V, W>>
+    where
+        W: Drop,
+        ensures value { heard result ≡ argument self.old.verb wanted word_in (left self.old.words) }
+        ensures rest { left self.new.words ≡ later (left self.old.words) }
+        ensures verb { self.new.verb ≡ self.old.verb }
+    {
+        self.words
+            .next_word()
+            .ok_or(Misread::Missing(self.verb, wanted))
     }
-    mark(line.next()).ok_or(Misreading::Wrong(verb, Wanted::Mark))
-}
 
-pub(crate) fn next_pile(line: &mut Words, verb: Verb) -> Result<Pile, Misreading>
-    ensures value { result ≡ argument verb the.Pile pile_in (left line.old) }
-    ensures rest { left line.new ≡ later (left line.old) }
-{
-    if line.is_done() {
-        return Err(Misreading::Missing(verb, Wanted::Pile));
+    // The next word, read as what is wanted there.
+    pub(crate) fn next<T: FromWord, W: Copy>(&mut self, wanted: W) -> Result<T, Misread<V, W>>
+        ensures value { result ≡ argument self.old.verb wanted T.read (left self.old.words) }
+        ensures rest { left self.new.words ≡ later (left self.old.words) }
+        ensures verb { self.new.verb ≡ self.old.verb }
+    {
+        let word = self.next_word(wanted)?;
+        T::from_word(word).ok_or(Misread::Wrong(self.verb, wanted))
     }
-    pile(line.next()).ok_or(Misreading::Wrong(verb, Wanted::Pile))
-}
 
-pub(crate) fn next_counting(line: &mut Words, verb: Verb) -> Result<Counting, Misreading>
-    ensures value { result ≡ argument verb the.Arithmetic counting_in (left line.old) }
-    ensures rest { left line.new ≡ later (left line.old) }
-{
-    if line.is_done() {
-        return Err(Misreading::Missing(verb, Wanted::Arithmetic));
+    // What was read, where no word is left.
+    pub(crate) fn end<T: Drop, W: Drop>(&self, read: T) -> Result<T, Misread<V, W>>
+        ensures { result ≡ ended self.now.verb (left self.now.words) read }
+    {
+        if self.words.is_done() {
+            Ok(read)
+        } else {
+            Err(Misread::TooMany(self.verb))
+        }
     }
-    counting(line.next()).ok_or(Misreading::Wrong(verb, Wanted::Arithmetic))
-}
 
-// That no word is left.
-pub(crate) fn end(line: &Words, verb: Verb) -> Result<(), Misreading>
-    ensures { result ≡ ended verb (left line.now) }
-{
-    if line.is_done() {
-        Ok(())
-    } else {
-        Err(Misreading::TooMany(verb))
+    // One argument, and no word more.
+    pub(crate) fn sole<T: FromWord + Drop, W: Copy>(
+        &mut self,
+        wanted: W,
+    ) -> Result<T, Misread<V, W>>
+        ensures { result ≡ sole self.old.verb wanted T.read (left self.old.words) }
+    {
+        let value = self.next(wanted)?;
+        self.end(value)
     }
 }

@@ -1,47 +1,45 @@
 // Reads one line of a session: a command with its arguments, or why the line is not understood.
 #![tactic(auto)]
 
-ghost use Rattle.std.specs.Prelude.{◌≡◌, true, IfOk, OnErr};
-ghost use Rattle.command.specs.Understood.{line_lists, meant, understood};
 ghost use Rattle.command.specs.Laws.{CutIntoWords};
+ghost use Rattle.command.specs.Understood.{Parses};
 
 mod arguments;
 mod commands;
+mod errors;
+mod misread;
 mod names;
 mod numbers;
+mod printing;
 mod recipes;
 mod types;
 mod words;
 mod worked;
 
+use arguments::{Arguments, FromWord};
 use commands::command_of;
-use names::verb;
+pub use misread::Misread;
+pub use printing::Kind;
 pub use recipes::{
-    RecipeCommand, RecipeLine, RecipeMisreading, RecipeVerb, RecipeWanted, ends_text, parse_recipe,
+    RecipeCommand, RecipeMisreading, RecipeVerb, RecipeWanted, ends_text, parse_recipe,
 };
-use std::alloc::{AllocError, Global};
-pub use types::{Command, Counting, Line, Misreading, Pile, Verb, Wanted};
+use std::alloc::Global;
+pub use types::{Command, Counting, Load, Misreading, ParseError, Pile, Verb, Wanted};
 use words::Words;
+pub use words::trimmed;
 
-// Any bytes are a line. The only error is want of memory for the list of channels of a total.
-pub fn parse(heap: Global, line: &[u8]) -> Result<Line, AllocError>
-    ensures meaning { IfOk result (λ l. meant l ≡ understood line.now) }
-    ensures memory { OnErr result (line_lists line.now ≡ true) }
+// Any bytes are a line. None where it is passed over: it has no word, or its first word begins with '#'.
+pub fn parse(heap: Global, line: &[u8]) -> Result<Option<Command>, ParseError>
+    ensures meaning { Parses line.now result }
     ensures cut { CutIntoWords line.now }
 {
-    let mut rest = Words::of(line);
-    if rest.is_done() {
-        return Ok(Line::Passed);
-    }
-    let name = rest.next();
-    if name[0] == b'#' {
-        return Ok(Line::Passed);
-    }
-    let Some(verb) = verb(name) else {
-        return Ok(Line::NotUnderstood(Misreading::UnknownCommand));
+    let mut words = Words::of(line);
+    let Some(name) = words.next_word() else {
+        return Ok(None);
     };
-    match command_of(heap, verb, &mut rest)? {
-        Ok(command) => Ok(Line::Command(command)),
-        Err(misreading) => Ok(Line::NotUnderstood(misreading)),
+    if name.starts_with(b"#") {
+        return Ok(None);
     }
+    let verb = Verb::from_word(name).ok_or(Misreading::UnknownCommand)?;
+    command_of(heap, &mut Arguments { words, verb }).map(Some)
 }

@@ -1,86 +1,66 @@
 // The names of the commands, and the words that stand for a mark, a pile and an arithmetic.
-ghost use Rattle.std.specs.Prelude.{◌≡◌};
-ghost use Rattle.std.specs.Str.{bytes_eq};
 ghost use Rattle.command.specs.Names.{verb_of, mark_in, pile_in, counting_in};
 
+use crate::arguments::FromWord;
 use crate::types::{Counting, Pile, Verb};
 
-// Whether a word is spelled so.
-pub(crate) fn is(word: &[u8], name: &[u8]) -> bool
-    ensures { result ≡ bytes_eq word.now name.now }
-{
-    word == name
-}
+impl FromWord for Verb {
+    ghost read = { verb_of };
 
-pub(crate) fn verb(word: &[u8]) -> Option<Verb>
-    ensures { result ≡ verb_of word.now }
-{
-    if is(word, b"station") {
-        Some(Verb::Station)
-    } else if is(word, b"records") {
-        Some(Verb::Records)
-    } else if is(word, b"put") {
-        Some(Verb::Put)
-    } else if is(word, b"raw") {
-        Some(Verb::Raw)
-    } else if is(word, b"tare") {
-        Some(Verb::Tare)
-    } else if is(word, b"interval") {
-        Some(Verb::Interval)
-    } else if is(word, b"pile") {
-        Some(Verb::Pile)
-    } else if is(word, b"weigh") {
-        Some(Verb::Weigh)
-    } else if is(word, b"total") {
-        Some(Verb::Total)
-    } else if is(word, b"arithmetic") {
-        Some(Verb::Arithmetic)
-    } else {
-        None
+    fn from_word(word: &[u8]) -> Option<Verb> {
+        match word {
+            b"station" => Some(Verb::Station),
+            b"records" => Some(Verb::Records),
+            b"put" => Some(Verb::Put),
+            b"raw" => Some(Verb::Raw),
+            b"tare" => Some(Verb::Tare),
+            b"interval" => Some(Verb::Interval),
+            b"pile" => Some(Verb::Pile),
+            b"weigh" => Some(Verb::Weigh),
+            b"total" => Some(Verb::Total),
+            b"arithmetic" => Some(Verb::Arithmetic),
+            _ => None,
+        }
     }
 }
 
-// Whether the scale is at rest.
-pub(crate) fn mark(word: &[u8]) -> Option<bool>
-    ensures { result ≡ mark_in word.now }
-{
-    if is(word, b"rest") {
-        Some(true)
-    } else if is(word, b"moving") {
-        Some(false)
-    } else {
-        None
+// The mark of a load: whether the scale is at rest.
+impl FromWord for bool {
+    ghost read = { mark_in };
+
+    fn from_word(word: &[u8]) -> Option<bool> {
+        match word {
+            b"rest" => Some(true),
+            b"moving" => Some(false),
+            _ => None,
+        }
     }
 }
 
-pub(crate) fn pile(word: &[u8]) -> Option<Pile>
-    ensures { result ≡ pile_in word.now }
-{
-    if is(word, b"board") {
-        Some(Pile::Board)
-    } else if is(word, b"tare") {
-        Some(Pile::Tare)
-    } else if is(word, b"step") {
-        Some(Pile::Step)
-    } else if is(word, b"step-tare") {
-        Some(Pile::StepTare)
-    } else if is(word, b"tare-step") {
-        Some(Pile::TareStep)
-    } else {
-        None
+impl FromWord for Pile {
+    ghost read = { pile_in };
+
+    fn from_word(word: &[u8]) -> Option<Pile> {
+        match word {
+            b"board" => Some(Pile::Board),
+            b"tare" => Some(Pile::Tare),
+            b"step" => Some(Pile::Step),
+            b"step-tare" => Some(Pile::StepTare),
+            b"tare-step" => Some(Pile::TareStep),
+            _ => None,
+        }
     }
 }
 
-pub(crate) fn counting(word: &[u8]) -> Option<Counting>
-    ensures { result ≡ counting_in word.now }
-{
-    if is(word, b"gram") {
-        Some(Counting::Gram)
-    } else if is(word, b"old") {
-        Some(Counting::Old)
-    } else if is(word, b"fine") {
-        Some(Counting::Fine)
-    } else {
-        None
+impl FromWord for Counting {
+    ghost read = { counting_in };
+
+    fn from_word(word: &[u8]) -> Option<Counting> {
+        match word {
+            b"gram" => Some(Counting::Gram),
+            b"old" => Some(Counting::Old),
+            b"fine" => Some(Counting::Fine),
+            _ => None,
+        }
     }
 }

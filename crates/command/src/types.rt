@@ -1,7 +1,9 @@
 // What a line of a session can say: the commands with their arguments, and why a line is not understood.
+use crate::misread::Misread;
+use std::alloc::AllocError;
 
 // Which layers stand over the board as a channel is read.
-#[derive(Clone, Copy)]
+#[derive(Clone, Copy, PartialEq, Eq, Debug)]
 pub enum Pile {
     Board,
     Tare,
@@ -11,7 +13,7 @@ pub enum Pile {
 }
 
 // By which arithmetic weights are counted.
-#[derive(Clone, Copy)]
+#[derive(Clone, Copy, PartialEq, Eq, Debug)]
 pub enum Counting {
     Gram,
     Old,
@@ -19,7 +21,7 @@ pub enum Counting {
 }
 
 // The commands, each by its name.
-#[derive(Clone, Copy)]
+#[derive(Clone, Copy, PartialEq, Eq, Debug)]
 pub enum Verb {
     Station,
     Records,
@@ -34,7 +36,7 @@ pub enum Verb {
 }
 
 // What a command wants at a place among its arguments.
-#[derive(Clone, Copy)]
+#[derive(Clone, Copy, PartialEq, Eq, Debug)]
 pub enum Wanted {
     StationNumber,
     Count,
@@ -47,43 +49,38 @@ pub enum Wanted {
 }
 
 // Why a line is not understood.
-#[derive(Clone, Copy)]
+#[derive(Clone, Copy, PartialEq, Eq, Debug)]
 pub enum Misreading {
     UnknownCommand,
-    Missing(Verb, Wanted),
-    Wrong(Verb, Wanted),
-    TooMany(Verb),
+    Arguments(Misread<Verb, Wanted>),
 }
 
-#[derive(Drop)]
+// Why a line gives no command.
+#[derive(Clone, Copy, PartialEq, Eq, Debug)]
+pub enum ParseError {
+    Misread(Misreading),
+    // There is no memory for the list of channels of a total.
+    Memory(AllocError),
+}
+
+// What lies on a channel.
+#[derive(Clone, Copy, PartialEq, Eq, Debug)]
+pub struct Load {
+    pub channel: u32,
+    pub grams: i32,
+    pub at_rest: bool,
+}
+
+#[derive(Drop, PartialEq, Eq, Debug)]
 pub enum Command {
     Station(u32),
     Records(u32),
-    Put {
-        channel: u32,
-        grams: i32,
-        at_rest: bool,
-    },
-    Raw {
-        channel: u32,
-        grams: i32,
-        at_rest: bool,
-    },
-    Tare {
-        channel: u32,
-        grams: i32,
-    },
+    Put(Load),
+    Raw(Load),
+    Tare { channel: u32, grams: i32 },
     Interval(u32),
     Pile(Pile),
     Weigh(u32),
     Total(Vec<u32>),
     Arithmetic(Counting),
-}
-
-// A line is passed over, is a command, or is not understood.
-#[derive(Drop)]
-pub enum Line {
-    Passed,
-    Command(Command),
-    NotUnderstood(Misreading),
 }

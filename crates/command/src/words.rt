@@ -1,9 +1,11 @@
 // The words of a line, one after another.
-ghost use Rattle.std.specs.Prelude.{◌≡◌, ◌<◌, ◌≤◌, true, false, length, take, drop, slice_index};
-ghost use Rattle.std.specs.List.{AllByRecursion};
-ghost use Rattle.command.specs.Words.{blank, words, first, later, none};
+ghost use Rattle.std.specs.Prelude.{◌≡◌, slice_get};
+ghost use Rattle.std.specs.List.{prefix_len, position_or_len};
+ghost use Rattle.std.specs.Option.{option_copied};
+ghost use Rattle.command.specs.Words.{blank, words, later, none};
 ghost use Rattle.command.specs.Left.{left};
 ghost use Rattle.command.specs.Laws.{CutIntoWords};
+ghost use Rattle.command.specs.Trimmed.{trimmed, white};
 
 // What is left of a line.
 #[derive(Drop)]
@@ -14,33 +16,7 @@ pub(crate) struct Words<'a> {
 fn is_blank(byte: u8) -> bool
     ensures { result ≡ blank byte }
 {
-    byte == b' ' || byte == b'\t' || byte == b'\r'
-}
-
-// How many bytes at the front are blanks.
-fn blanks(text: &[u8]) -> usize
-    ensures within { result ≤ length text.now }
-    ensures same { words (drop result text.now) ≡ words text.now }
-    ensures stops { result < length text.now → blank (slice_index text.now result) ≡ false }
-{
-    let mut n = 0;
-    while n < text.len() && is_blank(text[n]) {
-        n += 1;
-    }
-    n
-}
-
-// How many bytes at the front are no blanks.
-fn word_len(text: &[u8]) -> usize
-    ensures within { result ≤ length text.now }
-    ensures clear { AllByRecursion (λ b. blank b ≡ false) (take result text.now) }
-    ensures stops { result < length text.now → blank (slice_index text.now result) ≡ true }
-{
-    let mut n = 0;
-    while n < text.len() && !is_blank(text[n]) {
-        n += 1;
-    }
-    n
+    matches!(byte, b' ' | b'\t' | b'\r')
 }
 
 impl<'a> Words<'a> {
@@ -55,18 +31,39 @@ impl<'a> Words<'a> {
     pub(crate) fn is_done(&self) -> bool
         ensures { result ≡ none (left self.now) }
     {
-        blanks(self.rest) == self.rest.len()
+        self.rest.iter().all(|byte| is_blank(*byte))
     }
 
-    // The next word; with no byte where there is none.
-    pub(crate) fn next(&mut self) -> &'a [u8]
-        ensures word { result.now ≡ first (left self.old) }
+    // The next word, where one is left.
+    pub(crate) fn next_word(&mut self) -> Option<&'a [u8]>
+        ensures word { option_copied result ≡ slice_get (left self.old) 0 }
         ensures rest { left self.new ≡ later (left self.old) }
     {
-        let text = self.rest;
-        let text = &text[blanks(text)..];
-        let (word, rest) = text.split_at(word_len(text));
+        let start = self.rest.iter().position(|byte| !is_blank(*byte))?;
+        let text = &self.rest[start..];
+        let len = text.iter().take_while(|byte| !is_blank(**byte)).count();
+        let (word, rest) = text.split_at(len);
         self.rest = rest;
-        word
+        Some(word)
     }
+}
+
+fn is_white(byte: u8) -> bool
+    ensures { result ≡ white byte }
+{
+    is_blank(byte) || byte == b'\n'
+}
+
+// The line without the blanks and line feeds around it.
+pub fn trimmed(line: &[u8]) -> &[u8]
+    ensures { result.now ≡ trimmed line.now }
+{
+    let before = line.iter().take_while(|byte| is_white(**byte)).count();
+    let line = &line[before..];
+    let after = line
+        .iter()
+        .rev()
+        .take_while(|byte| is_white(**byte))
+        .count();
+    &line[..line.len() - after]
 }

@@ -12,7 +12,7 @@ use Rattle.reading.specs.OfStep.{step_setting}
 use Rattle.reading.specs.OfTare.{grams_each, tare_setting}
 use Rattle.reading.specs.Settings.{Setting, after}
 use Rattle.reading.specs.declared.board.Record.{Record}
-use Rattle.weighing.specs.declared.fault.TotalFault.{TotalFault}
+use Rattle.weighing.specs.Totals.{Outcome}
 use Rattle.weighing.specs.declared.fault.WeighingFault.TheVariants.{OfReading}
 use Rattle.session.specs.OfHoppers.{piled}
 use Rattle.session.specs.Totals.{total_in}
@@ -76,7 +76,7 @@ abbrev pub read_answer : Reading → Answer
 read_answer (Ok z) = the.Grams z
 read_answer (Err e) = the.Fault (OfReading e)
 
-abbrev pub total_answer : Result ℤ TotalFault → Answer
+abbrev pub total_answer : Outcome ℤ → Answer
 total_answer (Ok z) = the.Grams z
 total_answer (Err e) = the.FaultAt e
 

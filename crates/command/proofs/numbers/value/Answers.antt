@@ -1,6 +1,6 @@
-use Rattle.std.proofs.Common.{◌<◌, ◌≤◌, length, Some, sym, refl, ap, ◌∙◌, arith}
+use Rattle.std.proofs.Common.{◌<◌, ◌≤◌, length, sym, refl, ◌∙◌, arith}
 use Rattle.std.proofs.lemmas.Bool.{eqb-false}
-use Rattle.command.proofs.Values.{one_more, stops, whole, fits, too_large}
+use Rattle.command.proofs.Values.{one_more, stops, whole, all_read}
 use Rattle.command.proofs.numbers.value.Goals as goal
 
 pub loop-byte-init : goal.loop-byte-init
@@ -15,15 +15,9 @@ returns-in_err-value c =
     c.from_residual.ensures ∙
     stops c.args.digits.now c.args.limit c.loop-byte.byte-index c.loop-byte.value l c.loop-byte-test.true c.in_err-value.ensures c.loop-byte.invariant
 
-pub returns-then-value-limit : goal.returns-then-value-limit
-returns-then-value-limit c =
+pub returns : goal.returns
+returns c =
     let xs = c.args.digits.now in
-    let w = whole xs c.loop-byte.byte-index c.loop-byte.value c.loop-byte-test.false c.loop-byte.invariant in
     let some : 0 < length xs = omega (arith, eqb-false (length xs) 0 (sym c.if-is_empty.ensures)) in
-    ap Some w.0 ∙ fits xs c.args.limit some w.1 (omega arith)
-
-pub returns-else-value-limit : goal.returns-else-value-limit
-returns-else-value-limit c =
-    let xs = c.args.digits.now in
     let w = whole xs c.loop-byte.byte-index c.loop-byte.value c.loop-byte-test.false c.loop-byte.invariant in
-    too_large xs c.args.limit (omega arith)
+    c.then_some.ensures ∙ all_read xs c.args.limit c.loop-byte.value some w.0 w.1
