@@ -1,57 +1,64 @@
--- Facts about the entries of a shelf.
-use Rattle.std.proofs.Common.{◌≡◌, ℕ, ◌+◌, ◌<◌, Bool, true, false, cond, List, [], ◌∷◌, ◌++◌, map, length, get_or, drop, set, Some, None, vec_items, Decides, Option, sym, refl, ap, ◌∙◌, add-one, drop-cons}
-use lib.Seq.{map-set}
-use Rattle.std.specs.Str.{bytes_eq}
-use Rattle.std.proofs.lemmas.List.{map_push}
+-- A shelf's map as what is kept.
+use Rattle.std.proofs.Common.{◌≡◌, ℕ, ◌≤◌, Bool, true, false, cond, not, leb, List, [], ◌∷◌, map, length, is_some, Some, None, vec_items, Vec, Option, option_map, sym, refl, ap, ◌∙◌}
+use lib.ListN.{length-map}
+use Rattle.std.specs.Ordering.{nat_cmp, match_ordering}
+use Rattle.std.specs.declared.cmp.Ordering.{Ordering}
+use Rattle.std.specs.declared.cmp.Ordering.TheVariants.{Less, Equal, Greater}
+use Rattle.std.specs.declared.alloc.Global.{Global}
+use Rattle.std.specs.Cmp.Lexicographic.{slice_cmp}
+use Rattle.std.specs.Map.{lookup}
+use Rattle.std.specs.BTreeMap.{is_at, insert_entry}
+use Rattle.std.proofs.lemmas.Bool.{le-leb}
 use Rattle.recipe.specs.Compiled.{accepted, refused}
 use Rattle.shelf.specs.declared.kept.Recipe.{Recipe}
-use Rattle.shelf.specs.Kept.{Kept, answer_at, compile_after, compile_told, entry_of, full, place_from, place_of, put_at, refuses, too_many, took, with_recipes}
+use Rattle.shelf.specs.Kept.{Entry, Kept, answer_at, compile_after, compile_told, entry_of, found, full, put, refuses, too_many, took, with_recipes}
 
--- Two tests of one fact.
-pub same_test : {P : Type 0} (s t : Bool) → Decides s P → Decides t P → s ≡ t
-same_test true true d e = refl
-same_test true false d e = sym (e.1 (d.0 refl))
-same_test false true d e = d.1 (e.0 refl)
-same_test false false d e = refl
+abbrev pub shown : Vec ℕ Global × Recipe → List ℕ × Entry
+shown e = (vec_items e.0, entry_of e.1)
 
--- The search from i looks at the recipe there, then goes on.
-pub from_here :
-    (name : List ℕ) (rs : List Recipe) (i : ℕ) (d : Recipe) → i < length rs →
-    place_from i name (map entry_of (drop i rs)) ≡
-    cond (bytes_eq (vec_items (get_or rs i d).name) name) (Some i) (place_from (i + 1) name (map entry_of (drop (i + 1) rs)))
-from_here name rs i d h =
-    let cut : drop i rs ≡ get_or rs i d ∷ drop (i + 1) rs = rw add-one (drop-cons rs i d h) in
-    ap (λ xs. place_from i name (map entry_of xs)) cut
+-- The entry that a search comes to, at the first name or past it.
+either : (b : Bool) (x : Recipe) (o : Option Recipe) (p : Option Entry) → option_map entry_of o ≡ p →
+    option_map entry_of (cond b (Some x) o) ≡ cond b (Some (entry_of x)) p
+either true x o p e = refl
+either false x o p e = e
 
--- A recipe written over another, and one more.
-pub written_over :
-    (k : Kept) (rs : List Recipe) (i : ℕ) (r : Recipe) (place : Option ℕ) → place ≡ Some i →
-    with_recipes k (map entry_of (set rs i r)) ≡ with_recipes k (put_at place (entry_of r) (map entry_of rs))
-written_over k rs i r place e =
-    ap (with_recipes k) (map-set entry_of rs i r) ∙ ap (λ p. with_recipes k (put_at p (entry_of r) (map entry_of rs))) (sym e)
+pub found_shown : (q : List ℕ) (es : List (Vec ℕ Global × Recipe)) →
+    option_map entry_of (lookup (is_at (λ k. slice_cmp nat_cmp q (vec_items k))) es) ≡ found q (map shown es)
+found_shown q [] = refl
+found_shown q (e ∷ es) = either (is_at (slice_cmp nat_cmp q) (vec_items e.0)) e.1 _ _ (found_shown q es)
 
-pub one_more :
-    (k : Kept) (rs ss : List Recipe) (r : Recipe) (place : Option ℕ) → place ≡ None → ss ≡ rs ++ r ∷ [] →
-    with_recipes k (map entry_of ss) ≡ with_recipes k (put_at place (entry_of r) (map entry_of rs))
-one_more k rs ss r place e is =
-    ap (λ xs. with_recipes k (map entry_of xs)) is ∙
-    ap (with_recipes k) (map_push entry_of rs r) ∙ ap (λ p. with_recipes k (put_at p (entry_of r) (map entry_of rs))) (sym e)
+shown_at : (o : Ordering) (a b c : List (Vec ℕ Global × Recipe)) → map shown (match_ordering o a b c) ≡ match_ordering o (map shown a) (map shown b) (map shown c)
+shown_at Less a b c = refl
+shown_at Equal a b c = refl
+shown_at Greater a b c = refl
 
--- The three ends of a compile: a shelf that is full, a text that is accepted, one that is refused.
-pub ends_full :
-    (name text : List ℕ) (k : Kept) → full (place_of name k.recipes) k.recipes ≡ true →
-    (too_many ≡ compile_told name text k) × (k ≡ compile_after name text k)
+pub put_shown : (es : List (Vec ℕ Global × Recipe)) (k : Vec ℕ Global) (r : Recipe) →
+    map shown (insert_entry (λ x y. slice_cmp nat_cmp (vec_items x) (vec_items y)) es k r) ≡ put (vec_items k) (entry_of r) (map shown es)
+put_shown [] k r = refl
+put_shown (e ∷ es) k r =
+    let o = slice_cmp nat_cmp (vec_items k) (vec_items e.0) in
+    shown_at o _ _ _ ∙ ap (λ l. match_ordering o (map shown ((k, r) ∷ e ∷ es)) (map shown ((e.0, r) ∷ es)) (shown e ∷ l)) (put_shown es k r)
+
+some_shown : (o : Option Recipe) → is_some (option_map entry_of o) ≡ is_some o
+some_shown None = refl
+some_shown (Some x) = refl
+
+-- A shelf with a hundred names has no place for another.
+pub full_at : (q : List ℕ) (es : List (Vec ℕ Global × Recipe)) (r : Bool) → 100 ≤ length es →
+    r ≡ is_some (lookup (is_at (λ k. slice_cmp nat_cmp q (vec_items k))) es) → not r ≡ full q (map shown es)
+full_at q es r h e =
+    let n : leb 100 (length (map shown es)) ≡ true = ap (leb 100) (length-map es shown) ∙ le-leb 100 (length es) h in
+    rw n (ap not (e ∙ (sym (some_shown (lookup (is_at (λ k. slice_cmp nat_cmp q (vec_items k))) es)) ∙ ap is_some (found_shown q es))))
+
+-- ---- the three ends of a compile: a shelf that is full, a text that is accepted, one that is refused
+pub ends_full : (name text : List ℕ) (k : Kept) → full name k.recipes ≡ true → (too_many ≡ compile_told name text k) × (k ≡ compile_after name text k)
 ends_full name text k e = (rw e refl, rw e refl)
 
-pub ends_accepted :
-    (name text ws : List ℕ) (k l : Kept) (n : ℕ) → full (place_of name k.recipes) k.recipes ≡ false →
-    accepted ws ≡ answer_at text k.image_room k.table_room → n ≡ length ws →
-    l ≡ with_recipes k (put_at (place_of name k.recipes) (record { name = name; text = text; words = ws }) k.recipes) →
+pub ends_accepted : (name text ws : List ℕ) (k l : Kept) (n : ℕ) → full name k.recipes ≡ false →
+    accepted ws ≡ answer_at text k.room → n ≡ length ws → l ≡ with_recipes k (put name (record { text = text; words = ws }) k.recipes) →
     (took n ≡ compile_told name text k) × (l ≡ compile_after name text k)
 ends_accepted name text ws k l n e a m p = (rw (e, ← a, m) refl, rw (e, ← a, p) refl)
 
-pub ends_refused :
-    (name text : List ℕ) (cause place : ℕ) (k : Kept) → full (place_of name k.recipes) k.recipes ≡ false →
-    refused cause place ≡ answer_at text k.image_room k.table_room →
-    (refuses cause place text ≡ compile_told name text k) × (k ≡ compile_after name text k)
+pub ends_refused : (name text : List ℕ) (cause place : ℕ) (k : Kept) → full name k.recipes ≡ false →
+    refused cause place ≡ answer_at text k.room → (refuses cause place text ≡ compile_told name text k) × (k ≡ compile_after name text k)
 ends_refused name text cause place k e a = (rw (e, ← a) refl, rw (e, ← a) refl)

@@ -1,2 +1,2 @@
-pub mod Answered
-pub mod Entries
+mod Answered
+mod Entries

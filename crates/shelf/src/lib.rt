@@ -1,9 +1,9 @@
 // Recipes by their names: a text that compiles is kept with its image.
 #![tactic(auto)]
 
-mod compiled;
+mod calls;
+mod errors;
 mod kept;
-mod places;
-mod words;
 
-pub use kept::{CompileAnswer, Recipe, Shelf};
+pub use errors::{CompileError, NotKept};
+pub use kept::{Recipe, Room, Shelf};

@@ -1,46 +1,50 @@
-use Rattle.std.proofs.Common.{◌≡◌, Bool, map, vec_items, sym, ap, ◌∙◌}
-use Rattle.recipe.specs.Compiled.{accepted, refused}
-use Rattle.recipe.specs.Causes.{cause_number}
-use Rattle.shelf.specs.Kept.{answer_at, entry_of, full, kept_by, outcome, place_of, put_at, with_recipes}
-use Rattle.shelf.proofs.Entries.{ends_accepted, ends_full, ends_refused}
+use Rattle.std.proofs.Common.{rules, ◌≡◌, false, length, take, map, vec_items, vec_len, Err, sym, ap, ◌∙◌, subst}
+use Rattle.recipe.specs.Causes.{cause_number, fine}
+use Rattle.recipe.specs.Compiled.{accepted, compile_answer, answered, image_after}
+use Rattle.shelf.specs.declared.errors.NotKept.TheVariants as the
+use Rattle.shelf.specs.declared.errors.CompileError.TheVariants as error
+use Rattle.shelf.specs.Kept.{Compiles, answer_at, full, kept_by, with_recipes}
+use Rattle.shelf.proofs.Answered.{cause_told, refilled, words_taken, words_told}
+use Rattle.shelf.proofs.Entries.{ends_accepted, ends_refused, put_shown, shown}
 use Rattle.shelf.proofs.kept.Shelf.compile.Goals as goal
-use Rattle.shelf.proofs.kept.Shelf.compile.Goals.{After-is_full}
+use Rattle.shelf.proofs.kept.Shelf.compile.Goals.{After-compile}
 
--- The place that was looked for.
-place : (c : After-is_full) → c.place_of-place.result ≡ place_of (vec_items c.args.name) (kept_by c.args.self.now).recipes
-place c =
-    c.place_of-place.ensures.place ∙
-    (ap (λ n. place_of n (map entry_of c.deref-2.result.now)) c.deref.ensures.value ∙
-    ap (λ rs. place_of (vec_items c.args.name) (map entry_of rs)) c.deref-2.ensures.value)
+-- There was a place for the name.
+open_for : (c : After-compile) → full c.args.name.items (kept_by c.args.self.now).recipes ≡ false
+open_for c =
+    ap (λ n. full n (kept_by c.args.self.now).recipes) (sym c.deref.ensures.value) ∙ (sym c.is_full.ensures ∙ c.if-is_full.false)
 
-fullness :
-    (c : After-is_full) (b : Bool) → b ≡ full c.place_of-place.result (kept_by c.args.self.now).recipes →
-    full (place_of (vec_items c.args.name) (kept_by c.args.self.now).recipes) (kept_by c.args.self.now).recipes ≡ b
-fullness c b e = ap (λ p. full p (kept_by c.args.self.now).recipes) (sym (place c)) ∙ sym e
-
-pub returns-then-is_full : goal.returns-then-is_full
-returns-then-is_full c =
-    let f = fullness (goal.at.returns-then-is_full c).After-is_full _ c.if-is_full.ensures in
-    ends_full (vec_items c.args.name) (vec_items c.args.text) (kept_by c.args.self.now) f
-
-pub returns-in_ok-put-in-Ok : goal.returns-in_ok-put-in-Ok
-returns-in_ok-put-in-Ok c =
-    let b = (goal.at.returns-in_ok-put-in-Ok c).After-is_full in
-    let k = kept_by c.args.self.now in
-    let text = vec_items c.args.text in
-    let image = c.in-Ok.image in
-    let a : accepted (vec_items image) ≡ answer_at text k.image_room k.table_room =
-    ap outcome (sym c.in-Ok.is) ∙ (c.in_ok-image.ensures ∙ ap (λ t. answer_at t k.image_room k.table_room) c.deref-3.ensures.value) in
-    let put = c.in_ok-put-in-Ok.ensures ∙ ap (λ p. with_recipes k (put_at p (record { name = vec_items c.args.name; text = text; words = vec_items image }) k.recipes)) (place b) in
-    ends_accepted (vec_items c.args.name) text (vec_items image) k (kept_by c.put.new.self) c.len-words.result
-    (fullness b _ c.if-is_full.ensures) a (c.len-words.ensures ∙ image.ok.0) put
+-- The memory that is lent has as many words as there is room for.
+lent : (c : After-compile) →
+    compile_answer c.deref-2.result.now (length c.deref_mut.result.now) (length c.deref_mut-2.result.now) ≡ answer_at c.args.text.items c.args.self.now.room
+unfolding answer_at
+lent c =
+    let i : length c.deref_mut.result.now ≡ c.args.self.now.room.image = c.deref_mut.ensures.len ∙ c.in_ok-image.ensures.len in
+    let t : length c.deref_mut-2.result.now ≡ c.args.self.now.room.table = c.deref_mut-2.ensures.len ∙ c.in_ok-table.ensures.len in
+    ap (λ s. compile_answer s (length c.deref_mut.result.now) (length c.deref_mut-2.result.now)) c.deref-2.ensures.value ∙
+    (ap (λ n. compile_answer c.args.text.items n (length c.deref_mut-2.result.now)) i ∙ ap (compile_answer c.args.text.items c.args.self.now.room.image) t)
 
 pub returns-in-Err : goal.returns-in-Err
 returns-in-Err c =
-    let b = (goal.at.returns-in-Err c).After-is_full in
+    let b = (goal.at.returns-in-Err c).After-compile in
     let k = kept_by c.args.self.now in
-    let text = vec_items c.args.text in
     let r = c.in-Err.refusal in
-    let a : refused (cause_number r.cause) r.place ≡ answer_at text k.image_room k.table_room =
-    ap outcome (sym c.in-Err.is) ∙ (c.in_ok-image.ensures ∙ ap (λ t. answer_at t k.image_room k.table_room) c.deref-3.ensures.value) in
-    ends_refused (vec_items c.args.name) text (cause_number r.cause) r.place k (fullness b _ c.if-is_full.ensures) a
+    let e : c.into-in-Err.result ≡ error.NotKept (the.Refused r c.args.text) = search rules in
+    subst (λ x. Compiles c.args.name.items c.args.text.items k (Err x) k) (sym e)
+    (ends_refused c.args.name.items c.args.text.items (cause_number r.cause) r.place k (open_for b) (cause_told _ _ _ c.in-Err.ensures.answer.answers ∙ lent b))
+
+pub returns : goal.returns
+returns c =
+    let b = (goal.at.returns c).After-compile in
+    let k = kept_by c.args.self.now in
+    let n = c.in-Ok.words in
+    let after = c.compile.new.image in
+    let answer = compile_answer c.deref-2.result.now (length c.deref_mut.result.now) (length c.deref_mut-2.result.now) in
+    let whole : length after ≡ vec_len c.in_ok-image.image = c.compile.auto.image ∙ c.deref_mut.ensures.len in
+    let taken : vec_items c.truncate.new.self ≡ take n after = c.truncate.ensures.items ∙ ap (take n) (refilled after _ _ whole) in
+    let answers : fine n ≡ answered answer = c.in-Ok.ensures.answer.answers in
+    let writes : after ≡ image_after answer c.deref_mut.result.now = c.in-Ok.ensures.answer.writes in
+    let a : accepted (vec_items c.truncate.new.self) ≡ answer = ap accepted taken ∙ words_taken answer c.deref_mut.result.now after n answers writes in
+    ends_accepted c.args.name.items c.args.text.items (vec_items c.truncate.new.self) k (record { recipes = map shown c.insert.new.self.entries; room = k.room }) n (open_for b)
+    (a ∙ lent b) (words_told n (vec_items c.truncate.new.self) answer answers a)
+    (ap (with_recipes k) (ap (map shown) c.in_ok-insert.ensures.entries ∙ put_shown c.args.self.now.recipes.entries c.args.name (record { text = c.args.text; image = c.truncate.new.self })))
