@@ -2,11 +2,9 @@
 use Rattle.std.specs.Prelude.{◌≡◌, ℕ, ◌-◌, Bool, true, false, cond, List, [], ◌∷◌, ◌++◌, length, take, Some, None, Ok, Err, vec_items, Option, Result}
 use Rattle.std.specs.Option.{option_map}
 use Rattle.std.specs.declared.alloc.AllocError.{AllocError}
-use Rattle.command.specs.OfRecipes.{Bidden, Bid, text_of, load_of, words_of, room, other, bidden, misread, recipe_line, ends_text}
-use Rattle.command.specs.declared.recipes.RecipeMisreading.{RecipeMisreading}
+use Rattle.command.specs.OfRecipes.{Bidden, RecipeMisreading, text_of, load_of, words_of, room, recipe_line, ends_text}
 use Rattle.shelf.specs.Kept as shelf
-use Rattle.shelf.specs.Kept.{Kept, Told, Compiles, told, kept_by, compile_told, compile_after, with_room}
-use Rattle.shelf.specs.declared.kept.CompileAnswer.{CompileAnswer}
+use Rattle.shelf.specs.Kept.{Kept, Told, took, told, kept_by, compile_told, compile_after, with_room}
 use Rattle.session.specs.Obeyed as bench
 use Rattle.session.specs.Obeyed.{State, Takes, state_of}
 use Rattle.session.specs.declared.answer.Answer.{Answer}
@@ -38,7 +36,6 @@ at_first = record { bench = bench.at_first; shelf = shelf.at_first; draft = None
 
 -- ---- what is said
 pub data Said : Type 0 where
-  nothing : Said
   of_bench : Answer → Said
   compiled : Told → Said
   words : List ℕ → Said
@@ -47,13 +44,20 @@ pub data Said : Type 0 where
   not_understood : RecipeMisreading → Said
 
 abbrev pub said : Reply → Said
-said the.Nothing = nothing
 said (the.Bench a) = of_bench a
-said (the.Compiled a) = compiled (told a)
+said (the.Accepted n) = compiled (took n)
+said (the.NotKept reason) = compiled (told reason)
 said (the.Words ws) = words (vec_items ws)
 said the.NoRecipe = no_recipe
 said (the.File n f) = wants_file n.now f.now
 said (the.NotUnderstood m) = not_understood m
+
+-- what a compile tells is said, unless memory ran out
+abbrev pub Tells : Option Told → Result Reply AllocError → Type 0
+Tells (Some t) (Ok a) = said a ≡ compiled t
+Tells (Some t) (Err e) = ⊥
+Tells None (Ok a) = ⊥
+Tells None (Err e) = Unit {0}
 
 -- ---- the state after a line; what is not named stays
 abbrev pub with_shelf : Sitting → Kept → Sitting
@@ -70,8 +74,9 @@ lengthened o line = record { name = o.name; text = (o.text ++ line) ++ 10 ∷ []
 abbrev pub joined : List ℕ → List ℕ
 joined text = take (length text - 1) text
 
-abbrev pub go_on_said : Drafted → List ℕ → Sitting → Said
-go_on_said o bs s = cond (ends_text bs) (compiled (compile_told o.name (joined o.text) s.shelf)) nothing
+-- a line that belongs to the text says nothing
+abbrev pub go_on_said : Drafted → List ℕ → Sitting → Option Said
+go_on_said o bs s = cond (ends_text bs) (Some (compiled (compile_told o.name (joined o.text) s.shelf))) None
 
 abbrev pub go_on_after : Drafted → List ℕ → Sitting → Sitting
 go_on_after o bs s =
@@ -80,8 +85,8 @@ go_on_after o bs s =
     (with_draft s (Some (lengthened o bs)))
 
 -- where memory runs out, the text is let go, and nothing else has changed
-abbrev pub GoesOn : Drafted → List ℕ → Sitting → Result Reply AllocError → Sitting → Type 0
-GoesOn o bs s (Ok a) t = (said a ≡ go_on_said o bs s) × (t ≡ go_on_after o bs s)
+abbrev pub GoesOn : Drafted → List ℕ → Sitting → Result (Option Reply) AllocError → Sitting → Type 0
+GoesOn o bs s (Ok a) t = (option_map said a ≡ go_on_said o bs s) × (t ≡ go_on_after o bs s)
 GoesOn o bs s (Err e) t = t ≡ with_draft s None
 
 -- ---- while none is
@@ -89,17 +94,17 @@ abbrev pub words_said : Option (List ℕ) → Said
 words_said None = no_recipe
 words_said (Some ws) = words ws
 
-abbrev pub bid_said : Bidden → Sitting → Said
-bid_said (text_of n) s = nothing
-bid_said (load_of n f) s = wants_file n f
-bid_said (words_of n) s = words_said (shelf.words_of n s.shelf)
-bid_said (room i t) s = of_bench Done
+abbrev pub bid_said : Bidden → Sitting → Option Said
+bid_said (text_of n) s = None
+bid_said (load_of n f) s = Some (wants_file n f)
+bid_said (words_of n) s = Some (words_said (shelf.words_of n s.shelf))
+bid_said (room i t) s = Some (of_bench Done)
 
 abbrev pub bid_after : Bidden → Sitting → Sitting
 bid_after (text_of n) s = with_draft s (Some (record { name = n; text = [] }))
 bid_after (load_of n f) s = s
 bid_after (words_of n) s = s
-bid_after (room i t) s = with_shelf s (with_room s.shelf i t)
+bid_after (room i t) s = with_shelf s (with_room s.shelf (record { image = i; table = t }))
 
 -- what may want memory: a name that is noted, words that are copied
 abbrev pub bid_wants : Bidden → Bool
@@ -108,45 +113,46 @@ bid_wants (load_of n f) = false
 bid_wants (words_of n) = true
 bid_wants (room i t) = false
 
-abbrev pub Bids : Bidden → Sitting → Result Reply AllocError → Sitting → Type 0
-Bids b s (Ok a) t = (said a ≡ bid_said b s) × (t ≡ bid_after b s)
+abbrev pub Bids : Bidden → Sitting → Result (Option Reply) AllocError → Sitting → Type 0
+Bids b s (Ok a) t = (option_map said a ≡ bid_said b s) × (t ≡ bid_after b s)
 Bids b s (Err e) t = (t ≡ s) × (bid_wants b ≡ true)
 
 -- a line for the bench is answered as the bench answers it
-abbrev pub SaidByBench : List ℕ → State → Said → State → Type 0
-SaidByBench bs s nothing t = Takes bs s (Ok None) t
-SaidByBench bs s (of_bench a) t = Takes bs s (Ok (Some a)) t
-SaidByBench bs s (compiled x) t = ⊥
-SaidByBench bs s (words x) t = ⊥
-SaidByBench bs s no_recipe t = ⊥
-SaidByBench bs s (wants_file n f) t = ⊥
-SaidByBench bs s (not_understood m) t = ⊥
+abbrev pub SaidByBench : List ℕ → State → Option Said → State → Type 0
+SaidByBench bs s None t = Takes bs s (Ok None) t
+SaidByBench bs s (Some (of_bench a)) t = Takes bs s (Ok (Some a)) t
+SaidByBench bs s (Some (compiled x)) t = ⊥
+SaidByBench bs s (Some (words x)) t = ⊥
+SaidByBench bs s (Some no_recipe) t = ⊥
+SaidByBench bs s (Some (wants_file n f)) t = ⊥
+SaidByBench bs s (Some (not_understood m)) t = ⊥
 
-abbrev pub Weighs : List ℕ → Sitting → Result Reply AllocError → Sitting → Type 0
-Weighs bs s (Ok a) t = SaidByBench bs s.bench (said a) t.bench × (t.shelf ≡ s.shelf) × (t.draft ≡ s.draft)
+abbrev pub Weighs : List ℕ → Sitting → Result (Option Reply) AllocError → Sitting → Type 0
+Weighs bs s (Ok a) t = SaidByBench bs s.bench (option_map said a) t.bench × (t.shelf ≡ s.shelf) × (t.draft ≡ s.draft)
 Weighs bs s (Err e) t = Takes bs s.bench (Err e) t.bench × (t.shelf ≡ s.shelf) × (t.draft ≡ s.draft)
 
 -- a line that is not understood changes nothing
-abbrev pub Misses : RecipeMisreading → Sitting → Result Reply AllocError → Sitting → Type 0
-Misses m s (Ok a) t = (said a ≡ not_understood m) × (t ≡ s)
+abbrev pub Misses : RecipeMisreading → Sitting → Result (Option Reply) AllocError → Sitting → Type 0
+Misses m s (Ok a) t = (option_map said a ≡ Some (not_understood m)) × (t ≡ s)
 Misses m s (Err e) t = ⊥
 
-abbrev pub Meets : Bid → List ℕ → Sitting → Result Reply AllocError → Sitting → Type 0
-Meets other bs s r t = Weighs bs s r t
-Meets (bidden b) bs s r t = Bids b s r t
-Meets (misread m) bs s r t = Misses m s r t
+abbrev pub Meets : Result (Option Bidden) RecipeMisreading → List ℕ → Sitting → Result (Option Reply) AllocError → Sitting → Type 0
+Meets (Ok None) bs s r t = Weighs bs s r t
+Meets (Ok (Some b)) bs s r t = Bids b s r t
+Meets (Err m) bs s r t = Misses m s r t
 
-abbrev pub Hears : List ℕ → Sitting → Result Reply AllocError → Sitting → Type 0
+abbrev pub Hears : List ℕ → Sitting → Result (Option Reply) AllocError → Sitting → Type 0
 Hears bs s r t = Meets (recipe_line bs) bs s r t
 
 -- ---- any line
-abbrev pub ByDraft : Option Drafted → List ℕ → Sitting → Result Reply AllocError → Sitting → Type 0
+abbrev pub ByDraft : Option Drafted → List ℕ → Sitting → Result (Option Reply) AllocError → Sitting → Type 0
 ByDraft None bs s r t = Hears bs s r t
 ByDraft (Some o) bs s r t = GoesOn o bs s r t
 
-abbrev pub Sits : List ℕ → Sitting → Result Reply AllocError → Sitting → Type 0
+abbrev pub Sits : List ℕ → Sitting → Result (Option Reply) AllocError → Sitting → Type 0
 Sits bs s r t = ByDraft s.draft bs s r t
 
--- a text that a file has
-abbrev pub Loads : List ℕ → List ℕ → Sitting → Result CompileAnswer AllocError → Sitting → Type 0
-Loads name text s r t = Compiles name text s.shelf r t.shelf × (t.bench ≡ s.bench) × (t.draft ≡ s.draft)
+-- a text that a file has; where memory runs out, nothing has changed
+abbrev pub Loads : List ℕ → List ℕ → Sitting → Result Reply AllocError → Sitting → Type 0
+Loads name text s (Ok a) t = (said a ≡ compiled (compile_told name text s.shelf)) × (t ≡ with_shelf s (compile_after name text s.shelf))
+Loads name text s (Err e) t = t ≡ s

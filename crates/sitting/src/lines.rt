@@ -1,12 +1,12 @@
 // A session: the bench and the recipes, line by line.
-ghost use Rattle.std.specs.Prelude.{◌≡◌, [], ◌∷◌, ◌++◌, is_some, IfOk, None, OnOk};
+ghost use Rattle.std.specs.Prelude.{◌≡◌, is_some, IfOk, None, OnOk};
 ghost use Rattle.command.specs.OfRecipes.{bid};
-ghost use Rattle.shelf.specs.Kept.{Compiles};
-ghost use Rattle.sitting.specs.Sittings.{Bids, GoesOn, Hears, Loads, Sits, Weighs, at_first, lengthened, draft_of, sitting_of};
+ghost use Rattle.shelf.specs.Kept.{answer};
+ghost use Rattle.sitting.specs.Sittings.{Bids, GoesOn, Hears, Loads, Sits, Tells, at_first, lengthened, draft_of, sitting_of};
 
-use command::{RecipeCommand, RecipeLine, RecipeMisreading, ends_text, parse_recipe};
+use command::{RecipeCommand, RecipeMisreading, ends_text, parse_recipe};
 use session::{Answer, Bench};
-use shelf::{CompileAnswer, Shelf};
+use shelf::{CompileError, NotKept, Room, Shelf};
 use std::alloc::{AllocError, Global};
 
 // The text of a recipe that is being written, each line with a line feed after it.
@@ -26,15 +26,26 @@ pub struct Session {
 // What a line is answered.
 #[derive(Drop)]
 pub enum Reply<'a> {
-    // The line is passed over, or belongs to a text.
-    Nothing,
     Bench(Answer),
-    Compiled(CompileAnswer),
+    // A recipe is kept: how many words its image has.
+    Accepted(usize),
+    NotKept(NotKept),
     Words(Vec<u32>),
     NoRecipe,
     // The file is wanted: its bytes are to be given to `load`.
     File { name: &'a [u8], file: &'a [u8] },
     NotUnderstood(RecipeMisreading),
+}
+
+// What a compile is answered. Memory that runs out is no answer.
+fn answered(compiled: Result<usize, CompileError>) -> Result<Reply<'static>, AllocError>
+    ensures { Tells (answer compiled) result }
+{
+    match compiled {
+        Ok(words) => Ok(Reply::Accepted(words)),
+        Err(CompileError::NotKept(reason)) => Ok(Reply::NotKept(reason)),
+        Err(CompileError::Memory(refused)) => Err(refused),
+    }
 }
 
 impl Draft {
@@ -73,25 +84,25 @@ impl Session {
         heap: Global,
         mut draft: Draft,
         line: &[u8],
-    ) -> Result<Reply<'static>, AllocError>
+    ) -> Result<Option<Reply<'static>>, AllocError>
         requires { self.old.draft ≡ None }
         ensures { GoesOn (draft_of draft) line.now (sitting_of self.old) result (sitting_of self.new) }
     {
         if ends_text(line) {
             let Draft { name, mut text } = draft;
             let _ = text.pop();
-            return Ok(Reply::Compiled(self.shelf.compile(heap, name, text)?));
+            return answered(self.shelf.compile(heap, name, text)).map(Some);
         }
         draft.lengthen(line)?;
         self.draft = Some(draft);
-        Ok(Reply::Nothing)
+        Ok(None)
     }
 
     fn obey<'a>(
         &mut self,
         heap: Global,
         command: RecipeCommand<'a>,
-    ) -> Result<Reply<'a>, AllocError>
+    ) -> Result<Option<Reply<'a>>, AllocError>
         ensures { Bids (bid command.entry) (sitting_of self.old) result (sitting_of self.new) }
     {
         match command {
@@ -101,44 +112,42 @@ impl Session {
                     name,
                     text: Vec::new(heap),
                 });
-                Ok(Reply::Nothing)
+                Ok(None)
             }
-            RecipeCommand::Load { name, file } => Ok(Reply::File { name, file }),
+            RecipeCommand::Load { name, file } => Ok(Some(Reply::File { name, file })),
             RecipeCommand::Words(name) => match self.shelf.image(name) {
-                Some(image) => Ok(Reply::Words(Vec::from_slice(heap, image)?)),
-                None => Ok(Reply::NoRecipe),
+                Some(image) => Ok(Some(Reply::Words(Vec::from_slice(heap, image)?))),
+                None => Ok(Some(Reply::NoRecipe)),
             },
             RecipeCommand::Room { image, table } => {
-                self.shelf.set_room(image, table);
-                Ok(Reply::Bench(Answer::Done))
+                self.shelf.set_room(Room { image, table });
+                Ok(Some(Reply::Bench(Answer::Done)))
             }
         }
     }
 
-    // A line that has no command about recipes.
-    fn weigh(&mut self, heap: Global, line: &[u8]) -> Result<Reply<'static>, AllocError>
-        ensures { Weighs line.now (sitting_of self.old) result (sitting_of self.new) }
-    {
-        match self.bench.take(heap, line)? {
-            Some(answer) => Ok(Reply::Bench(answer)),
-            None => Ok(Reply::Nothing),
-        }
-    }
-
-    // A line while no text is being written.
-    fn hear<'a>(&mut self, heap: Global, line: &'a [u8]) -> Result<Reply<'a>, AllocError>
+    // A line while no text is being written. The bench takes one that has no command about recipes.
+    fn hear<'a>(
+        &mut self,
+        heap: Global,
+        line: &'a [u8],
+    ) -> Result<Option<Reply<'a>>, AllocError>
         ensures { Hears line.now (sitting_of self.old) result (sitting_of self.new) }
     {
         match parse_recipe(line) {
-            RecipeLine::Other => self.weigh(heap, line),
-            RecipeLine::Command(command) => self.obey(heap, command),
-            RecipeLine::NotUnderstood(misreading) => Ok(Reply::NotUnderstood(misreading)),
+            Ok(Some(command)) => self.obey(heap, command),
+            Ok(None) => Ok(self.bench.take(heap, line)?.map(Reply::Bench)),
+            Err(misreading) => Ok(Some(Reply::NotUnderstood(misreading))),
         }
     }
 
-    // One line of a session, without its line feed. Where memory runs out, a text that is being written is let go and nothing else
+    // One line of a session, without its line feed: None where it is passed over or belongs to a text. Where memory runs out, a text that is being written is let go and nothing else
     // has changed.
-    pub fn take<'a>(&mut self, heap: Global, line: &'a [u8]) -> Result<Reply<'a>, AllocError>
+    pub fn take<'a>(
+        &mut self,
+        heap: Global,
+        line: &'a [u8],
+    ) -> Result<Option<Reply<'a>>, AllocError>
         ensures { Sits line.now (sitting_of self.old) result (sitting_of self.new) }
     {
         match self.draft.take() {
@@ -153,10 +162,10 @@ impl Session {
         heap: Global,
         name: &[u8],
         text: Vec<u8>,
-    ) -> Result<CompileAnswer, AllocError>
+    ) -> Result<Reply<'static>, AllocError>
         ensures { Loads name.now text.items (sitting_of self.old) result (sitting_of self.new) }
     {
         let name = Vec::from_slice(heap, name)?;
-        self.shelf.compile(heap, name, text)
+        answered(self.shelf.compile(heap, name, text))
     }
 }
