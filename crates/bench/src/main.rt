@@ -2,6 +2,7 @@
 #![tactic(auto)]
 
 use anyhow::anyhow;
+use command::trimmed;
 use session::Bench;
 use std::alloc::Global;
 use std::env;
@@ -42,23 +43,6 @@ Channels are 1 to 64. A weight is within 268435455 g on either side; GRAMS may b
 A command that is not understood is answered 'not understood', with the reason, and changes nothing.
 ";
 
-fn is_blank(byte: u8) -> bool {
-    matches!(byte, b' ' | b'\t' | b'\r' | b'\n')
-}
-
-// The line without the blanks around it: in the record a line that begins with blanks is one for people.
-fn trimmed(line: &[u8]) -> &[u8] {
-    let mut from = 0;
-    while from < line.len() && is_blank(line[from]) {
-        from += 1;
-    }
-    let mut to = line.len();
-    while to > from && is_blank(line[to - 1]) {
-        to -= 1;
-    }
-    &line[from..to]
-}
-
 // The record of one session, line by line as the commands come.
 fn record(rt: &HostRuntime, heap: Global, mut input: impl BufRead + Drop) -> anyhow::Result<()> {
     let mut bench = Bench::new(heap)?;
@@ -69,6 +53,7 @@ fn record(rt: &HostRuntime, heap: Global, mut input: impl BufRead + Drop) -> any
         if input.read_until(b'\n', &mut text)? == 0 {
             break;
         }
+        // in the record a line that begins with blanks is one for people
         let line = trimmed(&text);
         if let Some(answer) = bench.take(heap, line)? {
             out.write_all(line)?;
@@ -81,14 +66,8 @@ fn record(rt: &HostRuntime, heap: Global, mut input: impl BufRead + Drop) -> any
 
 // The record of the session in a file. An error names the file.
 fn record_of(rt: &HostRuntime, heap: Global, name: &str) -> anyhow::Result<()> {
-    let file = match File::open(rt, name) {
-        Ok(file) => file,
-        Err(error) => return Err(anyhow!(format!(in heap; "{name}: {error}")?)),
-    };
-    match record(rt, heap, BufReader::new(heap, file)?) {
-        Ok(()) => Ok(()),
-        Err(error) => Err(anyhow!(format!(in heap; "{name}: {error}")?)),
-    }
+    let file = File::open(rt, name).map_err(|error| anyhow!("{name}: {error}"))?;
+    record(rt, heap, BufReader::new(heap, file)?).map_err(|error| anyhow!("{name}: {error}"))
 }
 
 fn run(rt: &HostRuntime) -> anyhow::Result<()> {

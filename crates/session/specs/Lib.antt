@@ -1,3 +1,4 @@
+pub mod Answers
 pub mod Obeyed
 pub mod OfHoppers
 pub mod Totals

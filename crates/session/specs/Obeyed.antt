@@ -1,7 +1,9 @@
 -- The state of a bench, and what each command answers and makes of it.
-use Rattle.std.specs.Prelude.{◌≡◌, ℕ, ◌-◌, Bool, true, false, cond, not, ◌&&◌, ◌||◌, ◌⊎◌, List, [], ◌∷◌, ◌++◌, length, replicate, ℤ, pos, Some, None, Ok, Err, vec_items, Option, Result, ◌==◌, nat_le, nat_lt, slice_set}
+use Rattle.std.specs.Prelude.{◌≡◌, ℕ, ◌-◌, Bool, true, false, cond, not, ◌&&◌, ◌⊎◌, List, [], ◌∷◌, ◌++◌, length, replicate, ℤ, pos, Some, None, Ok, Err, vec_items, Option, Result, ◌==◌, nat_le, nat_lt, slice_set}
+use Rattle.std.specs.List.{list_any}
 use Rattle.std.specs.declared.alloc.AllocError.{AllocError}
-use Rattle.command.specs.Understood.{Meant, line_lists, understood, passed, command, not_understood, Asked, station, records, put, raw, tare, interval, pile, weigh, total, arithmetic}
+use Rattle.command.specs.Understood.{line_lists, understood, Asked, station, records, put, raw, tare, interval, pile, weigh, total, arithmetic}
+use Rattle.command.specs.declared.types.Misreading.{Misreading}
 use Rattle.command.specs.declared.types.Counting.{Counting}
 use Rattle.command.specs.declared.types.Counting.TheVariants as counting
 use Rattle.command.specs.declared.types.Pile.{Pile}
@@ -10,10 +12,11 @@ use Rattle.reading.specs.Answers.{Reading}
 use Rattle.reading.specs.OfBoard.{put_answer, leave_answer}
 use Rattle.reading.specs.OfStep.{step_setting}
 use Rattle.reading.specs.OfTare.{grams_each, tare_setting}
-use Rattle.reading.specs.Settings.{Setting, after}
+use Rattle.reading.specs.Settings.{after}
 use Rattle.reading.specs.declared.board.Record.{Record}
 use Rattle.weighing.specs.Totals.{Outcome}
 use Rattle.weighing.specs.declared.fault.WeighingFault.TheVariants.{OfReading}
+use Rattle.session.specs.Answers.{set_answer}
 use Rattle.session.specs.OfHoppers.{piled}
 use Rattle.session.specs.Totals.{total_in}
 use Rattle.session.specs.declared.answer.Answer.{Answer}
@@ -63,15 +66,11 @@ at_first = record {
 abbrev pub readings : State → ℕ → Reading
 readings s = piled s.pile s.records s.tares s.interval
 
+-- whether the number n stands among those
 abbrev pub known : ℕ → List ℕ → Bool
-known n [] = false
-known n (m ∷ ms) = n == m || known n ms
+known n made = list_any (λ m. m == n) made
 
 -- ---- answers
-abbrev pub set_answer : Setting → Answer
-set_answer (Ok u) = the.Done
-set_answer (Err e) = the.Refused e
-
 abbrev pub read_answer : Reading → Answer
 read_answer (Ok z) = the.Grams z
 read_answer (Err e) = the.Fault (OfReading e)
@@ -164,16 +163,16 @@ Obeys c s (Err e) t = (wants_memory c s ≡ true) × (t ≡ s)
 
 -- a line of that meaning was answered a, and left the state t: a line that is passed over gets no answer, and one
 -- that is not understood changes nothing
-abbrev pub Took : Meant → State → Option Answer → State → Type 0
-Took passed s a t = (a ≡ None) × (t ≡ s)
-Took (command c) s a t = (a ≡ Some (obeyed c s)) × (t ≡ obeyed_after c s)
-Took (not_understood m) s a t = (a ≡ Some (the.NotUnderstood m)) × (t ≡ s)
+abbrev pub Took : Result (Option Asked) Misreading → State → Option Answer → State → Type 0
+Took (Ok None) s a t = (a ≡ None) × (t ≡ s)
+Took (Ok (Some c)) s a t = (a ≡ Some (obeyed c s)) × (t ≡ obeyed_after c s)
+Took (Err m) s a t = (a ≡ Some (the.NotUnderstood m)) × (t ≡ s)
 
 -- whether to obey a line of that meaning may want memory
-abbrev pub meant_wants : Meant → State → Bool
-meant_wants passed s = false
-meant_wants (command c) s = wants_memory c s
-meant_wants (not_understood m) s = false
+abbrev pub meant_wants : Result (Option Asked) Misreading → State → Bool
+meant_wants (Ok None) s = false
+meant_wants (Ok (Some c)) s = wants_memory c s
+meant_wants (Err m) s = false
 
 -- memory may run out where a list of channels is read, or where the command wants some, and then nothing has changed
 abbrev pub Takes : List ℕ → State → Result (Option Answer) AllocError → State → Type 0

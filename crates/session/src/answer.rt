@@ -1,9 +1,13 @@
-// What a command of a session is answered.
+// What a command of a session is answered. The first words of an answer are fixed, so that other programs can read a record.
+ghost use Rattle.std.specs.Prelude.{◌≡◌};
+ghost use Rattle.session.specs.Answers.{set_answer};
+
 use command::Misreading;
-use reading::SettingRefusal;
+use reading::{AtChannel, SettingRefusal};
+use std::fmt;
 use weighing::{TotalFault, WeighingFault};
 
-#[derive(Clone, Copy)]
+#[derive(Clone, Copy, PartialEq, Eq, Debug)]
 pub enum Answer {
     NewStation(u32),
     Station(u32),
@@ -17,4 +21,41 @@ pub enum Answer {
     TooManyStations,
     TooManyRecords,
     NotUnderstood(Misreading),
+}
+
+// The answer to a setting.
+impl From<Result<(), SettingRefusal>> for Answer {
+    ghost from_gives = { λ setting answer. answer ≡ set_answer setting };
+
+    fn from(setting: Result<(), SettingRefusal>) -> Answer {
+        match setting {
+            Ok(()) => Answer::Done,
+            Err(refusal) => Answer::Refused(refusal),
+        }
+    }
+}
+
+impl fmt::Display for Answer {
+    fn fmt<W: fmt::Write>(&self, f: &mut fmt::Formatter<W>) -> fmt::Result {
+        match self {
+            Answer::NewStation(number) => write!(f, "new station {number}"),
+            Answer::Station(number) => write!(f, "station {number}"),
+            Answer::Records(count) => write!(f, "{count} records"),
+            Answer::Done => write!(f, "done"),
+            Answer::Refused(refusal) => write!(f, "refused {} {refusal}", refusal.number()),
+            Answer::Grams(grams) => write!(f, "{grams} g"),
+            Answer::Fault(fault) => write!(f, "fault {} {fault}", fault.number()),
+            Answer::FaultAt(AtChannel { channel, fault }) => write!(
+                f,
+                "fault {} {fault}, channel {channel}",
+                fault.number()
+            ),
+            Answer::TooManyStations => write!(f, "not understood: at most 64 stations are made"),
+            Answer::TooManyRecords => write!(
+                f,
+                "not understood: a board has at most 10000 records"
+            ),
+            Answer::NotUnderstood(misreading) => write!(f, "{misreading}"),
+        }
+    }
 }

@@ -2,19 +2,25 @@
 ghost use Rattle.std.specs.Prelude.{◌≡◌, replicate, IfOk};
 ghost use Rattle.command.specs.Understood as asked;
 ghost use Rattle.command.specs.Understood.{asked as meant_by};
-ghost use Rattle.session.specs.Obeyed.{Does, Obeys, Takes, at_first, empty_record, known, obeyed, set_answer, state_of};
+ghost use Rattle.session.specs.Obeyed.{Does, Obeys, Takes, at_first, empty_record, load as record_of, obeyed, state_of};
 
 use crate::answer::Answer;
 use crate::hoppers::Hoppers;
 use crate::totals::total_by;
-use command::{Command, Counting, Line, Pile, parse};
-use reading::{Board, ReadingSource, Record, SettingRefusal, Step, Tare};
+use command::{Command, Counting, Load, ParseError, Pile, parse};
+use reading::{Board, ReadingSource, Record, Step, Tare};
 use std::alloc::{AllocError, Global};
 use weighing::WeighingFault;
 
 const MOST_RECORDS: u32 = 10_000;
 
 const MOST_STATIONS: usize = 64;
+
+// A record of 0 g at rest.
+const EMPTY: Record = Record {
+    grams: 0,
+    resting: true,
+};
 
 // The readings' side of a session. Stations are known by their numbers.
 #[derive(Drop)]
@@ -24,35 +30,20 @@ pub struct Bench {
     stations: Vec<u32>,
 }
 
-// The answer to a setting.
-fn set_answer(setting: Result<(), SettingRefusal>) -> Answer
-    ensures { result ≡ set_answer setting }
+// The record that a load gives.
+fn record(load: Load) -> Record
+    ensures { result ≡ record_of load.grams load.at_rest }
 {
-    match setting {
-        Ok(()) => Answer::Done,
-        Err(refusal) => Answer::Refused(refusal),
+    Record {
+        grams: load.grams,
+        resting: load.at_rest,
     }
-}
-
-fn is_known(number: u32, stations: &[u32]) -> bool
-    ensures { result ≡ known number stations.now }
-{
-    for made in stations {
-        if *made == number {
-            return true;
-        }
-    }
-    false
 }
 
 fn empty_board(heap: Global, count: u32) -> Result<Board, AllocError>
     ensures { IfOk result (λ b. b.records.items ≡ replicate count empty_record) }
 {
-    let empty = Record {
-        grams: 0,
-        resting: true,
-    };
-    let records = vec![in heap; empty; count as usize]?;
+    let records = vec![in heap; EMPTY; count as usize]?;
     Ok(Board::new(records))
 }
 
@@ -77,7 +68,7 @@ impl Bench {
     fn station(&mut self, number: u32) -> Result<Answer, AllocError>
         ensures { Obeys (asked.station number) (state_of self.old) result (state_of self.new) }
     {
-        if is_known(number, &self.stations) {
+        if self.stations.contains(&number) {
             return Ok(Answer::Station(number));
         }
         if self.stations.len() >= MOST_STATIONS {
@@ -115,61 +106,18 @@ impl Bench {
         }
     }
 
-    fn put(&mut self, channel: u32, given: Record) -> Answer
-        ensures { Does (asked.put channel given.grams given.resting) (state_of self.old) result (state_of self.new) }
-    {
-        set_answer(self.hoppers.layers.below.below.put(channel, given))
-    }
-
-    fn leave(&mut self, channel: u32, given: Record) -> Answer
-        ensures { Does (asked.raw channel given.grams given.resting) (state_of self.old) result (state_of self.new) }
-    {
-        set_answer(self.hoppers.layers.below.below.leave(channel, given))
-    }
-
-    fn set_tare(&mut self, channel: u32, grams: i32) -> Answer
-        ensures { Does (asked.tare channel grams) (state_of self.old) result (state_of self.new) }
-    {
-        set_answer(self.hoppers.layers.below.set(channel, grams))
-    }
-
-    fn set_interval(&mut self, d: u32) -> Answer
-        ensures { Does (asked.interval d) (state_of self.old) result (state_of self.new) }
-    {
-        set_answer(self.hoppers.layers.set(d))
-    }
-
     // Carries out one command. Where memory runs out, nothing has changed.
     pub fn obey(&mut self, heap: Global, command: Command) -> Result<Answer, AllocError>
         ensures { Obeys (meant_by command) (state_of self.old) result (state_of self.new) }
     {
+        let layers = &mut self.hoppers.layers;
         match command {
             Command::Station(number) => self.station(number),
             Command::Records(count) => self.renew(heap, count),
-            Command::Put {
-                channel,
-                grams,
-                at_rest,
-            } => Ok(self.put(
-                channel,
-                Record {
-                    grams,
-                    resting: at_rest,
-                },
-            )),
-            Command::Raw {
-                channel,
-                grams,
-                at_rest,
-            } => Ok(self.leave(
-                channel,
-                Record {
-                    grams,
-                    resting: at_rest,
-                },
-            )),
-            Command::Tare { channel, grams } => Ok(self.set_tare(channel, grams)),
-            Command::Interval(d) => Ok(self.set_interval(d)),
+            Command::Put(load) => Ok(layers.below.below.put(load.channel, record(load)).into()),
+            Command::Raw(load) => Ok(layers.below.below.leave(load.channel, record(load)).into()),
+            Command::Tare { channel, grams } => Ok(layers.below.set(channel, grams).into()),
+            Command::Interval(d) => Ok(layers.set(d).into()),
             Command::Pile(pile) => {
                 self.hoppers.pile = pile;
                 Ok(Answer::Done)
@@ -187,10 +135,11 @@ impl Bench {
     pub fn take(&mut self, heap: Global, line: &[u8]) -> Result<Option<Answer>, AllocError>
         ensures { Takes line.now (state_of self.old) result (state_of self.new) }
     {
-        match parse(heap, line)? {
-            Line::Passed => Ok(None),
-            Line::Command(command) => Ok(Some(self.obey(heap, command)?)),
-            Line::NotUnderstood(misreading) => Ok(Some(Answer::NotUnderstood(misreading))),
+        match parse(heap, line) {
+            Ok(None) => Ok(None),
+            Ok(Some(command)) => self.obey(heap, command).map(Some),
+            Err(ParseError::Misread(misreading)) => Ok(Some(Answer::NotUnderstood(misreading))),
+            Err(ParseError::Memory(refused)) => Err(refused),
         }
     }
 }

@@ -5,7 +5,6 @@ mod answer;
 mod bench;
 mod hoppers;
 mod totals;
-mod words;
 
 pub use answer::Answer;
 pub use bench::Bench;

@@ -17,8 +17,7 @@ fn total_shown<V: Arithmetic, S: ReadingSource>(
 ) -> Result<i32, TotalFault>
     ensures { result ≡ shown_total V.Arithmetic.rules (S.ReadingSource.answers source.now) channels.now }
 {
-    let sum: V = total(source, channels)?;
-    Ok(sum.shown())
+    total(source, channels).map(|sum: V| sum.shown())
 }
 
 // The weights of the channels added from the left in the chosen arithmetic, in whole grams as shown.

@@ -319,48 +319,36 @@ const FINE: [Row<f64>; 15] = [
 ];
 
 fn told<V: Arithmetic>(answer: Result<V, ArithmeticFault>) -> Result<i32, u8> {
-    match answer {
-        Ok(value) => Ok(value.shown()),
-        Err(fault) => Err(fault.number()),
-    }
+    answer.map(V::shown).map_err(ArithmeticFault::number)
 }
 
-fn holds<V: Arithmetic, P>(rt: &impl Abort, row: &Row<P>, left: V, right: V) {
-    assert_eq!(rt; told(left.plus(right)), row.plus, "plus");
-    assert_eq!(rt; told(left.minus(right)), row.minus, "minus");
-    assert_eq!(rt; told(left.times(right)), row.times, "times");
-    assert_eq!(rt; told(left.over(right)), row.over, "over");
+// Each row of a table, at the values that stand for its places.
+fn holds<V: Arithmetic, P: Copy, F: Fn(P) -> V>(rt: &impl Abort, rows: &[Row<P>], value_of: F)
+    requires { F.IsAlwaysCallable value_of }
+{
+    for row in rows {
+        let left = value_of(row.left);
+        let right = value_of(row.right);
+        assert_eq!(rt; told(left.plus(right)), row.plus, "plus");
+        assert_eq!(rt; told(left.minus(right)), row.minus, "minus");
+        assert_eq!(rt; told(left.times(right)), row.times, "times");
+        assert_eq!(rt; told(left.over(right)), row.over, "over");
+    }
 }
 
 #[test]
 fn gram_table(rt: HostRuntime) {
-    for row in &GRAM {
-        holds(
-            &rt,
-            row,
-            Gram { grams: row.left },
-            Gram { grams: row.right },
-        );
-    }
+    holds(&rt, &GRAM, |grams| Gram { grams });
 }
 
 #[test]
 fn old_table(rt: HostRuntime) {
-    for row in &OLD {
-        holds(&rt, row, Old { grams: row.left }, Old { grams: row.right });
-    }
+    holds(&rt, &OLD, |grams| Old { grams });
 }
 
 #[test]
 fn fine_table(rt: HostRuntime) {
-    for row in &FINE {
-        holds(
-            &rt,
-            row,
-            Fine { grams: row.left },
-            Fine { grams: row.right },
-        );
-    }
+    holds(&rt, &FINE, |grams| Fine { grams });
 }
 
 // Results that a display does not tell apart.
@@ -457,10 +445,7 @@ fn shown_in_whole_grams(rt: HostRuntime) {
 
 // The grams of a weight, or None where there is none.
 fn weighed(grams: i32) -> Option<i32> {
-    match Weight::new(grams) {
-        Some(weight) => Some(weight.grams()),
-        None => None,
-    }
+    Weight::new(grams).map(Weight::grams)
 }
 
 #[test]
@@ -476,10 +461,7 @@ fn weights_within_the_limit(rt: HostRuntime) {
 
 // What whole makes of a weight at the limit, as shown.
 fn whole_shown<V: Arithmetic>(grams: i32) -> Option<i32> {
-    match Weight::new(grams) {
-        Some(weight) => Some(V::whole(weight).shown()),
-        None => None,
-    }
+    Weight::new(grams).map(|weight| V::whole(weight).shown())
 }
 
 #[test]
