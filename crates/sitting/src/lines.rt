@@ -2,7 +2,7 @@
 ghost use Rattle.std.specs.Prelude.{◌≡◌, is_some, IfOk, None, OnOk};
 ghost use Rattle.command.specs.OfRecipes.{bid};
 ghost use Rattle.shelf.specs.Kept.{answer};
-ghost use Rattle.sitting.specs.Sittings.{Bids, GoesOn, Hears, Loads, Sits, Tells, at_first, lengthened, draft_of, sitting_of};
+ghost use Rattle.sitting.specs.Sittings.{Bids, GoesOn, Hears, Loads, Sits, Tells, Weighs, at_first, lengthened, draft_of, sitting_of};
 
 use command::{RecipeCommand, RecipeMisreading, ends_text, parse_recipe};
 use session::{Answer, Bench};
@@ -10,7 +10,7 @@ use shelf::{CompileError, NotKept, Room, Shelf};
 use std::alloc::{AllocError, Global};
 
 // The text of a recipe that is being written, each line with a line feed after it.
-#[derive(Drop)]
+#[derive(PartialEq, Eq, Debug, Drop)]
 pub(crate) struct Draft {
     name: Vec<u8>,
     text: Vec<u8>,
@@ -24,7 +24,7 @@ pub struct Session {
 }
 
 // What a line is answered.
-#[derive(Drop)]
+#[derive(PartialEq, Eq, Debug, Drop)]
 pub enum Reply<'a> {
     Bench(Answer),
     // A recipe is kept: how many words its image has.
@@ -126,7 +126,17 @@ impl Session {
         }
     }
 
-    // A line while no text is being written. The bench takes one that has no command about recipes.
+    // A line that has no command about recipes.
+    fn weigh(&mut self, heap: Global, line: &[u8]) -> Result<Option<Reply<'static>>, AllocError>
+        ensures { Weighs line.now (sitting_of self.old) result (sitting_of self.new) }
+    {
+        let Some(answer) = self.bench.take(heap, line)? else {
+            return Ok(None);
+        };
+        Ok(Some(Reply::Bench(answer)))
+    }
+
+    // A line while no text is being written.
     fn hear<'a>(
         &mut self,
         heap: Global,
@@ -136,7 +146,7 @@ impl Session {
     {
         match parse_recipe(line) {
             Ok(Some(command)) => self.obey(heap, command),
-            Ok(None) => Ok(self.bench.take(heap, line)?.map(Reply::Bench)),
+            Ok(None) => self.weigh(heap, line),
             Err(misreading) => Ok(Some(Reply::NotUnderstood(misreading))),
         }
     }
