@@ -4,15 +4,16 @@
 mod people;
 
 use anyhow::anyhow;
+use command::trimmed;
 use people::explain;
-use shelf::CompileAnswer;
+use shelf::NotKept;
 use sitting::{Reply, Session};
-use std::alloc::Global;
+use std::error::Error;
 use std::fs::File;
 use std::io::{BufRead, BufReader, Write};
 use std::process::ExitCode;
 use std::str::from_utf8;
-use std::{env, fs, io};
+use std::{env, fmt, fs, io};
 
 const HELP: &str = "\
 bench FILE          prints the record of the session in FILE
@@ -60,54 +61,37 @@ Channels are 1 to 64. A weight is within 268435455 g on either side; GRAMS may b
 A command that is not understood is answered 'not understood', with the reason, and changes nothing.
 ";
 
-fn is_blank(byte: u8) -> bool {
-    matches!(byte, b' ' | b'\t' | b'\r' | b'\n')
+// Why a file gives no text.
+#[derive(Debug, Drop)]
+enum FileError {
+    Name,
+    Read(io::Error),
 }
 
-// The line without the blanks around it: in the record a line that begins with blanks is one for people.
-fn trimmed(line: &[u8]) -> &[u8] {
-    let mut from = 0;
-    while from < line.len() && is_blank(line[from]) {
-        from += 1;
+impl fmt::Display for FileError {
+    fn fmt<W: fmt::Write>(&self, f: &mut fmt::Formatter<W>) -> fmt::Result {
+        match self {
+            FileError::Name => write!(f, "the file's name is no text"),
+            FileError::Read(error) => write!(f, "{error}"),
+        }
     }
-    let mut to = line.len();
-    while to > from && is_blank(line[to - 1]) {
-        to -= 1;
-    }
-    &line[from..to]
 }
 
-// The line without the line feed that ends it.
-fn unfed(line: &[u8]) -> &[u8] {
-    match line {
-        [before @ .., b'\n'] => before,
-        _ => line,
-    }
+impl Error for FileError {}
+
+fn file_bytes(rt: &HostRuntime, file: &[u8]) -> Result<Vec<u8>, FileError> {
+    let path = from_utf8(file).map_err(|_| FileError::Name)?;
+    fs::read(rt, path).map_err(FileError::Read)
 }
 
 // One command of the record: the command as written, the answer, and the lines for people.
 fn print(out: &mut impl Write, command: &[u8], reply: &Reply) -> io::Result<()> {
     out.write_all(command)?;
     writeln!(out, ": {reply}")?;
-    if let Reply::Compiled(CompileAnswer::Refused { refusal, text }) = reply {
+    if let Reply::NotKept(NotKept::Refused { refusal, text }) = reply {
         explain(out, *refusal, text)?;
     }
     Ok(())
-}
-
-// The bytes of the file, or why there are none.
-fn file_bytes(
-    rt: &HostRuntime,
-    heap: Global,
-    file: &[u8],
-) -> anyhow::Result<Result<Vec<u8>, String>> {
-    let Ok(path) = from_utf8(file) else {
-        return Ok(Err(String::from_str(heap, "the file's name is no text")?));
-    };
-    match fs::read(rt, path) {
-        Ok(bytes) => Ok(Ok(bytes)),
-        Err(error) => Ok(Err(format!(in heap; "{error}")?)),
-    }
 }
 
 // Prints what a line is answered; a file that is wanted is read and compiled first.
@@ -118,41 +102,39 @@ fn answer(
     command: &[u8],
     reply: Reply,
 ) -> anyhow::Result<()> {
-    let heap = rt.alloc();
-    match reply {
-        Reply::Nothing => Ok(()),
-        Reply::File { name, file } => match file_bytes(rt, heap, file)? {
-            Ok(text) => {
-                let told = Reply::Compiled(session.load(heap, name, text)?);
-                Ok(print(out, command, &told)?)
-            }
-            Err(reason) => {
-                out.write_all(command)?;
-                Ok(writeln!(out, ": not understood: {reason}")?)
-            }
-        },
-        reply => Ok(print(out, command, &reply)?),
+    let Reply::File { name, file } = reply else {
+        return Ok(print(out, command, &reply)?);
+    };
+    match file_bytes(rt, file) {
+        Ok(text) => Ok(print(out, command, &session.load(rt.alloc(), name, text)?)?),
+        Err(error) => {
+            out.write_all(command)?;
+            Ok(writeln!(out, ": not understood: {error}")?)
+        }
     }
 }
 
 // The record of one session, line by line as the commands come. The lines of a recipe's text belong to one command.
-fn record(rt: &HostRuntime, heap: Global, mut input: impl BufRead + Drop) -> anyhow::Result<()> {
+fn record(rt: &HostRuntime, mut input: impl BufRead + Drop) -> anyhow::Result<()> {
+    let heap = rt.alloc();
     let mut session = Session::new(heap)?;
     let mut out = rt.stdout();
     let mut command: Vec<u8> = Vec::new(heap);
-    let mut text = Vec::new(heap);
+    let mut text: Vec<u8> = Vec::new(heap);
     for _ in 0..u64::MAX {
         text.clear();
         if input.read_until(b'\n', &mut text)? == 0 {
             break;
         }
-        let line = unfed(&text);
+        let line = text.strip_suffix(b"\n").unwrap_or(&text);
         if !session.has_draft() {
             command.clear();
+            // in the record a line that begins with blanks is one for people
             command.extend_from_slice(trimmed(line))?;
         }
-        let reply = session.take(heap, line)?;
-        answer(rt, &mut out, &mut session, &command, reply)?;
+        if let Some(reply) = session.take(heap, line)? {
+            answer(rt, &mut out, &mut session, &command, reply)?;
+        }
     }
     if session.has_draft() {
         out.write_all(&command)?;
@@ -166,41 +148,34 @@ fn record(rt: &HostRuntime, heap: Global, mut input: impl BufRead + Drop) -> any
 }
 
 // The record of the session in a file. An error names the file.
-fn record_of(rt: &HostRuntime, heap: Global, name: &str) -> anyhow::Result<()> {
-    let file = match File::open(rt, name) {
-        Ok(file) => file,
-        Err(error) => return Err(anyhow!(format!(in heap; "{name}: {error}")?)),
-    };
-    match record(rt, heap, BufReader::new(heap, file)?) {
-        Ok(()) => Ok(()),
-        Err(error) => Err(anyhow!(format!(in heap; "{name}: {error}")?)),
-    }
+fn record_of(rt: &HostRuntime, name: &str) -> anyhow::Result<()> {
+    let file = File::open(rt, name).map_err(|error| anyhow!("{name}: {error}"))?;
+    record(rt, BufReader::new(rt.alloc(), file)?).map_err(|error| anyhow!("{name}: {error}"))
 }
 
 // The record of one of several sessions, after a line with the file's name.
-fn named_record(rt: &HostRuntime, heap: Global, name: &str) -> anyhow::Result<()> {
+fn named_record(rt: &HostRuntime, name: &str) -> anyhow::Result<()> {
     println!(rt; "# {name}")?;
-    record_of(rt, heap, name)
+    record_of(rt, name)
 }
 
 fn run(rt: &HostRuntime) -> anyhow::Result<()> {
-    let heap = rt.alloc();
     let mut args = env::args(rt)?;
     let _program = args.next();
     let Some(first) = args.next() else {
-        return record(rt, heap, BufReader::new(heap, rt.stdin())?);
+        return record(rt, BufReader::new(rt.alloc(), rt.stdin())?);
     };
     if first.as_str() == "--help" {
         rt.print(HELP)?;
         return Ok(());
     }
     let Some(second) = args.next() else {
-        return record_of(rt, heap, first.as_str());
+        return record_of(rt, first.as_str());
     };
-    named_record(rt, heap, first.as_str())?;
-    named_record(rt, heap, second.as_str())?;
+    named_record(rt, first.as_str())?;
+    named_record(rt, second.as_str())?;
     for name in args {
-        named_record(rt, heap, name.as_str())?;
+        named_record(rt, name.as_str())?;
     }
     Ok(())
 }

@@ -1,42 +1,10 @@
 // Lines for people that add to a refusal: where in the text it stands, and what is wrong there.
-ghost use Rattle.std.specs.Prelude.{◌≤◌, min, length};
-
 use recipe::{Cause, Refusal};
 use std::io;
 use std::io::Write;
 
-// Where the line with that place begins.
-fn line_start(text: &[u8], place: usize) -> usize
-    ensures { result ≤ min place (length text.now) }
-{
-    let mut start = place.min(text.len());
-    while start > 0 && text[start - 1] != b'\n' {
-        start -= 1;
-    }
-    start
-}
-
-fn line_end(text: &[u8], place: usize) -> usize
-    ensures { (min place (length text.now) ≤ result) × (result ≤ length text.now) }
-{
-    let mut end = place.min(text.len());
-    while end < text.len() && text[end] != b'\n' {
-        end += 1;
-    }
-    end
-}
-
-// How many line feeds there are.
-fn feeds(text: &[u8]) -> usize
-    ensures { result ≤ length text.now }
-{
-    let mut count = 0;
-    for byte in text {
-        if *byte == b'\n' {
-            count += 1;
-        }
-    }
-    count
+fn is_feed(byte: &u8) -> bool {
+    *byte == b'\n'
 }
 
 // Blanks as wide as the text over them: a tab stays a tab, and a byte that goes on a character has no width.
@@ -53,16 +21,21 @@ fn write_blanks(out: &mut impl Write, before: &[u8]) -> io::Result<()> {
 
 // The text's line with a mark under the place.
 fn write_place(out: &mut impl Write, text: &[u8], place: usize) -> io::Result<()> {
-    let start = line_start(text, place);
-    let end = line_end(text, place);
-    let at = place.clamp(start, end);
-    let line = feeds(&text[0..start]).saturating_add(1);
-    let column = (at - start).saturating_add(1);
+    let (before, after) = text.split_at(place.min(text.len()));
+    let begun = before.rsplit(is_feed).next().unwrap_or(before);
+    let left = after.split(is_feed).next().unwrap_or(after);
+    let line = before
+        .iter()
+        .filter(|byte| is_feed(*byte))
+        .count()
+        .saturating_add(1);
+    let column = begun.len().saturating_add(1);
     writeln!(out, "  line {line}, column {column}:")?;
     out.write_all(b"  ")?;
-    out.write_all(&text[start..end])?;
+    out.write_all(begun)?;
+    out.write_all(left)?;
     out.write_all(b"\n  ")?;
-    write_blanks(out, &text[start..at])?;
+    write_blanks(out, begun)?;
     out.write_all(b"^\n")
 }
 
