@@ -1,3 +1,4 @@
+pub mod Laws
 pub mod Obeyed
 pub mod OfHoppers
 pub mod Totals
