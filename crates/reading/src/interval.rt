@@ -33,16 +33,18 @@ impl Interval {
         }
     }
 
-    // The interval at which every whole gram is shown.
-    pub(crate) fn one() -> Interval
-        ensures { result.grams ≡ 1 }
-    {
-        Interval { grams: 1 }
-    }
-
     pub(crate) fn grams(self) -> u32
         ensures { result ≡ self.grams }
     {
         self.grams
+    }
+}
+
+impl Default for Interval {
+    ghost is_default = { λ i. i.grams ≡ 1 };
+
+    // At one gram every whole gram is shown.
+    fn default() -> Interval {
+        Interval { grams: 1 }
     }
 }
