@@ -1,11 +1,14 @@
 // What an arithmetic answers where it has no value.
-ghost use Rattle.std.specs.Prelude.{◌≡◌};
-ghost use Rattle.arithmetic.specs.Faults.{fault_number};
+ghost use Rattle.std.specs.Prelude.{◌≡◌, Some};
+ghost use Rattle.arithmetic.specs.Faults.{fault_number, fault_words};
+
+use std::error::Error;
+use std::fmt;
 
 #[derive(Clone, Copy, PartialEq, Eq, Debug)]
 pub enum ArithmeticFault {
-    OutOfRange,
-    DivisorZero,
+    OutOfRange = 31,
+    DivisorZero = 32,
 }
 
 impl ArithmeticFault {
@@ -13,9 +16,19 @@ impl ArithmeticFault {
     pub fn number(self) -> u8
         ensures { result ≡ fault_number self }
     {
-        match self {
-            ArithmeticFault::OutOfRange => 31,
-            ArithmeticFault::DivisorZero => 32,
-        }
+        self as u8
     }
 }
+
+impl fmt::Display for ArithmeticFault {
+    ghost output = { λ fault. Some (fault_words fault) };
+
+    fn fmt<W: fmt::Write>(&self, f: &mut fmt::Formatter<W>) -> fmt::Result {
+        f.write_str(match self {
+            ArithmeticFault::OutOfRange => "out of range",
+            ArithmeticFault::DivisorZero => "divisor zero",
+        })
+    }
+}
+
+impl Error for ArithmeticFault {}

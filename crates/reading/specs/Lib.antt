@@ -1,4 +1,5 @@
 pub mod Answers
+pub mod AtChannel
 pub mod Drops
 pub mod Faults
 pub mod Intervals

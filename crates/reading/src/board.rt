@@ -11,7 +11,7 @@ use crate::source::ReadingSource;
 use weight::Weight;
 
 // What the bus last wrote for one channel.
-#[derive(Clone, Copy)]
+#[derive(Clone, Copy, PartialEq, Eq, Debug)]
 pub struct Record {
     pub grams: i32,
     pub resting: bool,

@@ -6,7 +6,7 @@ ghost use Rattle.reading.specs.Intervals.{Rule, interval_setting, lawful_interva
 use crate::refusal::SettingRefusal;
 
 // 1, 2 or 5 times a power of ten, and at most 50,000 grams.
-#[derive(Clone, Copy)]
+#[derive(Clone, Copy, PartialEq, Eq, Debug)]
 pub struct Interval {
     grams: u32,
     ghost lawful: { lawful_interval grams ≡ true },

@@ -2,6 +2,7 @@
 #![tactic(auto)]
 
 mod answer;
+mod at_channel;
 mod board;
 mod drop;
 mod fault;
@@ -12,6 +13,7 @@ mod step;
 mod tare;
 mod worked;
 
+pub use at_channel::AtChannel;
 pub use board::{Board, Record};
 pub use fault::ReadingFault;
 pub use interval::Interval;

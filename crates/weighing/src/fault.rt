@@ -1,12 +1,14 @@
 // What ends an addition of weights: a fault of a reading, or of the arithmetic.
-ghost use Rattle.std.specs.Prelude.{◌≡◌};
-ghost use Rattle.weighing.specs.Faults.{weighing_number};
+ghost use Rattle.std.specs.Prelude.{◌≡◌, Some};
+ghost use Rattle.weighing.specs.Faults.{weighing_number, weighing_words};
 ghost use Rattle.weighing.specs.declared.fault.WeighingFault.TheVariants.{OfReading, OfArithmetic};
 
 use arithmetic::ArithmeticFault;
-use reading::ReadingFault;
+use reading::{AtChannel, ReadingFault};
+use std::error::Error;
+use std::fmt;
 
-#[derive(Clone, Copy)]
+#[derive(Clone, Copy, PartialEq, Eq, Debug)]
 pub enum WeighingFault {
     OfReading(ReadingFault),
     OfArithmetic(ArithmeticFault),
@@ -40,9 +42,18 @@ impl WeighingFault {
     }
 }
 
-// The fault, with the channel at which it came.
-#[derive(Clone, Copy)]
-pub struct TotalFault {
-    pub channel: u32,
-    pub fault: WeighingFault,
+impl fmt::Display for WeighingFault {
+    ghost output = { λ fault. Some (weighing_words fault) };
+
+    fn fmt<W: fmt::Write>(&self, f: &mut fmt::Formatter<W>) -> fmt::Result {
+        match self {
+            WeighingFault::OfReading(fault) => fault.fmt(f),
+            WeighingFault::OfArithmetic(fault) => fault.fmt(f),
+        }
+    }
 }
+
+impl Error for WeighingFault {}
+
+// What ends a total, with the channel at which it came.
+pub type TotalFault = AtChannel<WeighingFault>;

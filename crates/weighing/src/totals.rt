@@ -16,8 +16,7 @@ fn add<V: Arithmetic, S: ReadingSource>(
     ensures { result ≡ added V.Arithmetic.rules (S.ReadingSource.answers source.now channel) sum }
 {
     let weight = source.ask(channel)?;
-    let more = sum.plus(V::whole(weight))?;
-    Ok(more)
+    Ok(sum.plus(V::whole(weight))?)
 }
 
 // The same, and a fault tells its channel.
@@ -28,10 +27,7 @@ fn add_at<V: Arithmetic, S: ReadingSource>(
 ) -> Result<V, TotalFault>
     ensures { result ≡ added_at V.Arithmetic.rules (S.ReadingSource.answers source.now) channel sum }
 {
-    match add(sum, source, channel) {
-        Ok(more) => Ok(more),
-        Err(fault) => Err(TotalFault { channel, fault }),
-    }
+    add(sum, source, channel).map_err(|fault| TotalFault { channel, fault })
 }
 
 // The weights of the channels added from the left onto whole of 0; the first fault ends it.

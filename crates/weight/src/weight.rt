@@ -3,8 +3,11 @@ ghost use Rattle.std.specs.Prelude.{◌≡◌, ◌≤◌, pos, unsigned_abs};
 ghost use Rattle.std.specs.Option.{option_map};
 ghost use Rattle.weight.specs.Limit.{limit, weighed};
 
+// The most grams of a weight, on either side of zero.
+const LIMIT: i32 = 268_435_455;
+
 // Whole grams from -268,435,455 to 268,435,455.
-#[derive(Clone, Copy)]
+#[derive(Clone, Copy, PartialEq, Eq, Debug)]
 pub struct Weight {
     grams: i32,
     ghost within: { unsigned_abs grams ≤ limit },
@@ -15,7 +18,7 @@ impl Weight {
     pub fn new(grams: i32) -> Option<Weight>
         ensures { option_map (λ w. w.grams) result ≡ weighed grams }
     {
-        if -268435455 <= grams && grams <= 268435455 {
+        if (-LIMIT..=LIMIT).contains(&grams) {
             Some(Weight { grams })
         } else {
             None
