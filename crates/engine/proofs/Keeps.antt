@@ -1,5 +1,5 @@
 -- What a word comes to stays within its frame, leaves the registers sound, and is the same in the stack.
-use Rattle.std.proofs.Common.{◌≡◌, ℕ, ◌+◌, ◌-◌, ◌<◌, ◌≤◌, ltb, List, length, get_or, take, drop, set, Ok, Err, Result, sym, ap, ◌∙◌, add-zero, arith, length-drop, length-take}
+use Rattle.std.proofs.Common.{◌≡◌, ℕ, ◌+◌, ◌-◌, ◌<◌, ◌≤◌, ltb, List, length, get_or, take, drop, set, Some, None, Ok, Err, Result, sym, ap, ◌∙◌, add-zero, arith, length-drop, length-take}
 use borrow.Rule.Slice.PartMut.{put_mid, put_same, set_mid_at}
 use Rattle.std.proofs.lemmas.List.{take_all}
 use Rattle.std.proofs.lemmas.Bool.{cond_both, cond-true, lt-ltb}
@@ -11,7 +11,6 @@ use Rattle.machine.specs.declared.types.Effect.{Effect}
 use Rattle.machine.specs.declared.types.Effect.TheVariants.{Put, Move, Enter, End}
 use Rattle.machine.specs.declared.types.Instruction.{Instruction}
 use Rattle.machine.specs.declared.types.Instruction.TheVariants.{Num, Var, Op, Out, Unless, Go, Call, Back, Weigh, Bad}
-use Rattle.machine.specs.declared.types.Progress.TheVariants.{GoesOn, Ends}
 use Rattle.machine.specs.declared.types.Registers.{Registers}
 use Rattle.machine.specs.declared.types.Return.{Return}
 use Rattle.machine.specs.Words.{decoded}
@@ -67,12 +66,12 @@ module _ {V : Type 0} (rules : Rules V) (m : Registers) (s : List V) (t : List R
 
   put_back : (e : Result (Effect V) Fault) → AllFair e → m.base + frame_room ≤ length s → with_back (framed rules m lent t e) ≡ carried rules m s t e
   put_back (Ok (Put p v n)) fair room =
-      ap (λ (l : List V). stepped (Ok GoesOn) n l t)
+      ap (λ (l : List V). stepped (Ok None) n l t)
       (set_mid_at m.base (length s - m.base) p s v (simp (length-take, length-drop) (omega arith)))
-  put_back (Ok (Move n)) fair room = ap (λ (l : List V). stepped (Ok GoesOn) n l t) unchanged
-  put_back (Ok (Enter e n)) fair room = ap (λ (l : List V). stepped (Ok GoesOn) n l (set t m.nesting e)) unchanged
+  put_back (Ok (Move n)) fair room = ap (λ (l : List V). stepped (Ok None) n l t) unchanged
+  put_back (Ok (Enter e n)) fair room = ap (λ (l : List V). stepped (Ok None) n l (set t m.nesting e)) unchanged
   put_back (Ok (End v n)) fair room =
-      ap (λ (l : List V). stepped (Ok (Ends (rules.shown v))) n l t)
+      ap (λ (l : List V). stepped (Ok (Some (rules.shown v))) n l t)
       (set_mid_at m.base (length s - m.base) 0 s v (simp (length-take, length-drop) (omega arith)) ∙ ap (λ (k : ℕ). set s k v) (add-zero m.base))
   put_back (Err fault) fair room = ap (λ (l : List V). stepped (Err fault) m l t) unchanged
 

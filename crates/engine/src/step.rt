@@ -5,7 +5,7 @@ ghost use Rattle.engine.specs.Frames.{held_at};
 
 use crate::words::{Held, IMPOSSIBLE, carry_out};
 use arithmetic::Arithmetic;
-use machine::{Fault, Instruction, Progress, Registers, Return};
+use machine::{Fault, Instruction, Registers, Return};
 
 // Carries out the word at the run's index, in the frame alone: what lies below the base is not lent to it.
 pub(crate) fn step<N: Arithmetic>(
@@ -15,7 +15,7 @@ pub(crate) fn step<N: Arithmetic>(
     m: &mut Registers,
     stack: &mut [N],
     returns: &mut [Return],
-) -> Result<Progress, Fault>
+) -> Result<Option<i32>, Fault>
     requires sound { Sound frame_room m.old }
     requires image { (count ≤ 4096) × (count ≤ length image.now) }
     requires room { 4128 ≤ length stack.old }

@@ -1,15 +1,16 @@
 // What each word does in the frame that it is lent: the part of the stack that starts at the run's base.
 ghost use Rattle.std.specs.Prelude.{◌≡◌, ℕ, ◌-◌, ◌<◌, ◌≤◌, List, length, Err, slice_index_or};
 ghost use Rattle.reading.specs.Answers.{Reading};
+ghost use Rattle.reading.specs.AtChannel.{told_at};
 ghost use Rattle.reading.specs.declared.fault.ReadingFault.TheVariants.{NotFitted};
 ghost use Rattle.machine.specs.declared.types.Instruction.TheVariants.{Num, Var, Op as Operate, Out, Unless, Go, Call, Back, Weigh};
 ghost use Rattle.machine.specs.declared.types.Return.{Return as Entry};
 ghost use Rattle.machine.specs.Words.{Small};
 ghost use Rattle.machine.specs.Steps.{Sound, applied, frame_room, plan, pushed, stepped};
-ghost use Rattle.engine.specs.Frames.{framed, held_at, heard};
+ghost use Rattle.engine.specs.Frames.{framed, held_at};
 
 use arithmetic::{Arithmetic, ArithmeticFault};
-use machine::{ChannelFault, EngineFault, Fault, Instruction, Progress, Registers, Return};
+use machine::{ChannelFault, EngineFault, Fault, Instruction, Registers, Return};
 use reading::ReadingFault;
 use recipe::Op;
 use weight::Weight;
@@ -25,7 +26,7 @@ const DEEPEST: usize = 128;
 
 pub(crate) const IMPOSSIBLE: Fault = Fault::OfEngine(EngineFault::Impossible);
 
-fn push<N: Arithmetic>(m: &mut Registers, frame: &mut [N], value: N) -> Result<Progress, Fault>
+fn push<N: Arithmetic>(m: &mut Registers, frame: &mut [N], value: N) -> Result<Option<i32>, Fault>
     requires { (m.old.index < 4096) × (frame_room ≤ length frame.old) }
     ensures { (t : List Entry) → stepped result m.new frame.new t
         ≡ framed N.Arithmetic.rules m.old frame.old t (pushed frame_room m.old value) }
@@ -36,10 +37,10 @@ fn push<N: Arithmetic>(m: &mut Registers, frame: &mut [N], value: N) -> Result<P
     frame[m.len] = value;
     m.index += 1;
     m.len += 1;
-    Ok(Progress::GoesOn)
+    Ok(None)
 }
 
-fn number<N: Arithmetic>(m: &mut Registers, frame: &mut [N], n: u32) -> Result<Progress, Fault>
+fn number<N: Arithmetic>(m: &mut Registers, frame: &mut [N], n: u32) -> Result<Option<i32>, Fault>
     requires { (m.old.index < 4096) × ((frame_room ≤ length frame.old) × (n < 268435456)) }
     ensures { (h : ℕ → Reading) (k : ℕ) (t : List Entry) → stepped result m.new frame.new t
         ≡ framed N.Arithmetic.rules m.old frame.old t (plan frame_room N.Arithmetic.rules h k m.old frame.old t (Num n)) }
@@ -51,7 +52,7 @@ fn variable<N: Arithmetic>(
     m: &mut Registers,
     frame: &mut [N],
     slot: usize,
-) -> Result<Progress, Fault>
+) -> Result<Option<i32>, Fault>
     requires { (m.old.index < 4096) × ((frame_room ≤ length frame.old) × (m.old.len ≤ frame_room)) }
     ensures { (h : ℕ → Reading) (n : ℕ) (t : List Entry) → stepped result m.new frame.new t
         ≡ framed N.Arithmetic.rules m.old frame.old t (plan frame_room N.Arithmetic.rules h n m.old frame.old t (Var slot)) }
@@ -74,7 +75,7 @@ fn operate<N: Arithmetic>(op: Op, left: N, right: N) -> Result<N, ArithmeticFaul
     }
 }
 
-fn join<N: Arithmetic>(m: &mut Registers, frame: &mut [N], op: Op) -> Result<Progress, Fault>
+fn join<N: Arithmetic>(m: &mut Registers, frame: &mut [N], op: Op) -> Result<Option<i32>, Fault>
     requires { (m.old.index < 4096) × ((frame_room ≤ length frame.old) × (m.old.len ≤ frame_room)) }
     ensures { (h : ℕ → Reading) (n : ℕ) (t : List Entry) → stepped result m.new frame.new t
         ≡ framed N.Arithmetic.rules m.old frame.old t (plan frame_room N.Arithmetic.rules h n m.old frame.old t (Operate op)) }
@@ -86,10 +87,10 @@ fn join<N: Arithmetic>(m: &mut Registers, frame: &mut [N], op: Op) -> Result<Pro
     frame[m.len - 2] = value;
     m.index += 1;
     m.len -= 1;
-    Ok(Progress::GoesOn)
+    Ok(None)
 }
 
-fn out<N: Arithmetic>(m: &mut Registers, frame: &mut [N]) -> Result<Progress, Fault>
+fn out<N: Arithmetic>(m: &mut Registers, frame: &mut [N]) -> Result<Option<i32>, Fault>
     requires { (m.old.index < 4096) × ((frame_room ≤ length frame.old) × (m.old.len ≤ frame_room)) }
     ensures { (h : ℕ → Reading) (n : ℕ) (t : List Entry) → stepped result m.new frame.new t
         ≡ framed N.Arithmetic.rules m.old frame.old t (plan frame_room N.Arithmetic.rules h n m.old frame.old t Out) }
@@ -100,7 +101,7 @@ fn out<N: Arithmetic>(m: &mut Registers, frame: &mut [N]) -> Result<Progress, Fa
     frame[m.len - 2] = frame[m.len - 1];
     m.index += 1;
     m.len -= 1;
-    Ok(Progress::GoesOn)
+    Ok(None)
 }
 
 fn unless<N: Arithmetic>(
@@ -108,7 +109,7 @@ fn unless<N: Arithmetic>(
     frame: &[N],
     count: usize,
     target: usize,
-) -> Result<Progress, Fault>
+) -> Result<Option<i32>, Fault>
     requires { (m.old.index < 4096) × ((frame_room ≤ length frame.now) × (m.old.len ≤ frame_room)) }
     ensures { (h : ℕ → Reading) (t : List Entry) → stepped result m.new frame.now t
         ≡ framed N.Arithmetic.rules m.old frame.now t (plan frame_room N.Arithmetic.rules h count m.old frame.now t (Unless target)) }
@@ -122,7 +123,7 @@ fn unless<N: Arithmetic>(
     } else {
         m.index = target;
     }
-    Ok(Progress::GoesOn)
+    Ok(None)
 }
 
 fn go<N: Arithmetic>(
@@ -130,7 +131,7 @@ fn go<N: Arithmetic>(
     frame: &[N],
     count: usize,
     target: usize,
-) -> Result<Progress, Fault>
+) -> Result<Option<i32>, Fault>
     ensures { (h : ℕ → Reading) (t : List Entry) → stepped result m.new frame.now t
         ≡ framed N.Arithmetic.rules m.old frame.now t (plan frame_room N.Arithmetic.rules h count m.old frame.now t (Go target)) }
 {
@@ -141,7 +142,7 @@ fn go<N: Arithmetic>(
         index: target,
         ..*m
     };
-    Ok(Progress::GoesOn)
+    Ok(None)
 }
 
 fn call<N: Arithmetic>(
@@ -151,7 +152,7 @@ fn call<N: Arithmetic>(
     count: usize,
     arity: usize,
     target: usize,
-) -> Result<Progress, Fault>
+) -> Result<Option<i32>, Fault>
     requires { (m.old.index < 4096) × ((Sound frame_room m.old) × (128 ≤ length returns.old)) }
     ensures { (h : ℕ → Reading) → stepped result m.new frame.now returns.new
         ≡ framed N.Arithmetic.rules m.old frame.now returns.old (plan frame_room N.Arithmetic.rules h count m.old frame.now returns.old (Call arity target)) }
@@ -172,14 +173,14 @@ fn call<N: Arithmetic>(
         len: arity,
         nesting: m.nesting + 1,
     };
-    Ok(Progress::GoesOn)
+    Ok(None)
 }
 
 fn back<N: Arithmetic>(
     m: &mut Registers,
     frame: &mut [N],
     returns: &[Return],
-) -> Result<Progress, Fault>
+) -> Result<Option<i32>, Fault>
     requires { (Sound frame_room m.old) × ((frame_room ≤ length frame.old) × (128 ≤ length returns.now)) }
     ensures { (h : ℕ → Reading) (n : ℕ) → stepped result m.new frame.new returns.now
         ≡ framed N.Arithmetic.rules m.old frame.old returns.now (plan frame_room N.Arithmetic.rules h n m.old frame.old returns.now Back) }
@@ -191,7 +192,7 @@ fn back<N: Arithmetic>(
     if m.nesting == 0 {
         frame[0] = value;
         m.len = 1;
-        return Ok(Progress::Ends(value.shown()));
+        return Ok(Some(value.shown()));
     }
     let nesting = m.nesting - 1;
     let saved = returns[nesting];
@@ -206,19 +207,15 @@ fn back<N: Arithmetic>(
         len: m.base - base + 1,
         nesting,
     };
-    Ok(Progress::GoesOn)
+    Ok(None)
 }
 
 // The weight held for a channel, or its fault.
 fn hear(held: &Held, channel: u32) -> Result<Weight, ChannelFault>
     requires { (1 ≤ channel) × (channel ≤ 64) }
-    ensures { result ≡ heard channel (slice_index_or held.now (channel - 1) (Err NotFitted)) }
+    ensures { result ≡ told_at channel (slice_index_or held.now (channel - 1) (Err NotFitted)) }
 {
-    let reading = held[channel as usize - 1];
-    match reading {
-        Ok(weight) => Ok(weight),
-        Err(fault) => Err(ChannelFault { fault, channel }),
-    }
+    held[channel as usize - 1].map_err(|fault| ChannelFault { channel, fault })
 }
 
 fn weigh<N: Arithmetic>(
@@ -226,7 +223,7 @@ fn weigh<N: Arithmetic>(
     frame: &mut [N],
     held: &Held,
     channel: u32,
-) -> Result<Progress, Fault>
+) -> Result<Option<i32>, Fault>
     requires { (m.old.index < 4096) × (frame_room ≤ length frame.old) }
     ensures { (n : ℕ) (t : List Entry) → stepped result m.new frame.new t
         ≡ framed N.Arithmetic.rules m.old frame.old t (plan frame_room N.Arithmetic.rules (held_at held.now) n m.old frame.old t (Weigh channel)) }
@@ -246,7 +243,7 @@ pub(crate) fn carry_out<N: Arithmetic>(
     m: &mut Registers,
     frame: &mut [N],
     returns: &mut [Return],
-) -> Result<Progress, Fault>
+) -> Result<Option<i32>, Fault>
     requires small { Small instruction }
     requires sound { (Sound frame_room m.old) × (m.old.index < 4096) }
     requires room { frame_room ≤ length frame.old }

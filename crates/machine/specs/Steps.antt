@@ -1,5 +1,5 @@
 -- What one step of a run does. A frame is the stack from its base to its top; `room` is how many values it can hold.
-use Rattle.std.specs.Prelude.{ℕ, ◌+◌, ◌-◌, ◌*◌, ◌≤◌, Bool, true, false, cond, ◌&&◌, List, drop, pos, Ok, Err, Result, ◌==◌, nat_le, nat_lt, slice_index, slice_index_or, slice_set}
+use Rattle.std.specs.Prelude.{ℕ, ◌+◌, ◌-◌, ◌*◌, ◌≤◌, Bool, true, false, cond, ◌&&◌, List, drop, ℤ, pos, Some, None, Option, Ok, Err, Result, ◌==◌, nat_le, nat_lt, slice_index, slice_index_or, slice_set}
 use Rattle.arithmetic.specs.Rules.{Answer, Rules}
 use Rattle.reading.specs.Answers.{Reading, is_channel}
 use Rattle.recipe.specs.declared.Op.{Op as Operator}
@@ -11,8 +11,6 @@ use Rattle.machine.specs.declared.types.Effect.{Effect}
 use Rattle.machine.specs.declared.types.Effect.TheVariants.{Put, Move, Enter, End}
 use Rattle.machine.specs.declared.types.Instruction.{Instruction}
 use Rattle.machine.specs.declared.types.Instruction.TheVariants.{Num, Var, Op, Out, Unless, Go, Call, Back, Weigh, Bad}
-use Rattle.machine.specs.declared.types.Progress.{Progress}
-use Rattle.machine.specs.declared.types.Progress.TheVariants.{GoesOn, Ends}
 use Rattle.machine.specs.declared.types.Registers.{Registers}
 use Rattle.machine.specs.declared.types.Return.{Return}
 use Rattle.machine.specs.Words.{decoded}
@@ -120,23 +118,23 @@ module _ {V : Type 0} (room : ℕ) where
     abbrev pub planned : List ℕ → Registers → List V → List Return → Result (Effect V) Fault
     planned image m frame table = cond (nat_lt m.index count) (plan m frame table (decoded (slice_index image m.index))) impossible
 
--- what a step answers, and the registers and the memory after it
+-- what a step answers, the value as shown where the run ended with one, and the registers and the memory after it
 pub record Stepped (V : Type 0) : Type 0 where
-  pub answer : Result Progress Fault
+  pub answer : Result (Option ℤ) Fault
   pub registers : Registers
   pub stack : List V
   pub returns : List Return
 
 module _ {V : Type 0} where
-  abbrev pub stepped : Result Progress Fault → Registers → List V → List Return → Stepped V
+  abbrev pub stepped : Result (Option ℤ) Fault → Registers → List V → List Return → Stepped V
   stepped answer m stack table = record { answer = answer; registers = m; stack = stack; returns = table }
 
   -- nothing is written below the base, and a fault changes nothing
   abbrev pub carried : Rules V → Registers → List V → List Return → Result (Effect V) Fault → Stepped V
-  carried rules m stack table (Ok (Put p v n)) = stepped (Ok GoesOn) n (slice_set stack (m.base + p) v) table
-  carried rules m stack table (Ok (Move n)) = stepped (Ok GoesOn) n stack table
-  carried rules m stack table (Ok (Enter e n)) = stepped (Ok GoesOn) n stack (slice_set table m.nesting e)
-  carried rules m stack table (Ok (End v n)) = stepped (Ok (Ends (rules.shown v))) n (slice_set stack m.base v) table
+  carried rules m stack table (Ok (Put p v n)) = stepped (Ok None) n (slice_set stack (m.base + p) v) table
+  carried rules m stack table (Ok (Move n)) = stepped (Ok None) n stack table
+  carried rules m stack table (Ok (Enter e n)) = stepped (Ok None) n stack (slice_set table m.nesting e)
+  carried rules m stack table (Ok (End v n)) = stepped (Ok (Some (rules.shown v))) n (slice_set stack m.base v) table
   carried rules m stack table (Err fault) = stepped (Err fault) m stack table
 
   abbrev pub step : ℕ → Rules V → (ℕ → Reading) → ℕ → List ℕ → Registers → List V → List Return → Stepped V
