@@ -30,10 +30,10 @@ stop_stops (Err fault) index used allowance h = refl
 module _ {V : Type 0} (rules : Rules V) (m : Registers) (s : List V) (t : List Return) where
   stays_there : (e : Result (Effect V) Fault) (used allowance : ℕ) →
       status_after (carried rules m s t e).answer m.index used allowance ≡ status_after (carried rules m s t e).answer (carried rules m s t e).registers.index used allowance
-  stays_there (Ok (Put p v n)) used allowance = refl
+  stays_there (Ok (Put n p v)) used allowance = refl
   stays_there (Ok (Move n)) used allowance = refl
-  stays_there (Ok (Enter e n)) used allowance = refl
-  stays_there (Ok (End v n)) used allowance = refl
+  stays_there (Ok (Enter n e)) used allowance = refl
+  stays_there (Ok (End n v)) used allowance = refl
   stays_there (Err f) used allowance = refl
 
   same_place : (e : Result (Effect V) Fault) (used allowance : ℕ) (answer : Result (Option ℤ) Fault) (n : Registers) (s' : List V) (t' : List Return) →

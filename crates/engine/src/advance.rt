@@ -8,9 +8,9 @@ ghost use Rattle.engine.specs.Frames.{held_at};
 ghost use Rattle.engine.specs.Courses.{advanced, begun_course, course, course_of, left, too_short};
 ghost use Rattle.engine.specs.Loops.{run_after, run_at, standing, stops};
 
+use crate::frame::Held;
 use crate::run::Run;
 use crate::step::step;
-use crate::words::Held;
 use arithmetic::Arithmetic;
 use machine::{EngineFault, Fault, Registers, Return, RunFault, Status, head_count};
 

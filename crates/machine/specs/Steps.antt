@@ -51,7 +51,7 @@ module _ {V : Type 0} where
 
   -- the two values on top give way to one
   abbrev pub joined : Registers → V → Result (Effect V) Fault
-  joined m v = Ok (Put (m.len - 2) v (onward m (m.len - 1)))
+  joined m v = Ok (Put (onward m (m.len - 1)) (m.len - 2) v)
 
   abbrev pub computed : Registers → Answer V → Result (Effect V) Fault
   computed m (Ok v) = joined m v
@@ -66,13 +66,13 @@ module _ {V : Type 0} where
   abbrev pub entered : Registers → ℕ → ℕ → Result (Effect V) Fault
   entered m arity target =
       cond (nat_lt m.nesting deepest)
-      (Ok (Enter (record { base = m.base; next = m.index + 1 }) (at target (m.base + (m.len - arity)) arity (m.nesting + 1))))
+      (Ok (Enter (at target (m.base + (m.len - arity)) arity (m.nesting + 1)) (record { base = m.base; next = m.index + 1 })))
       (Err (OfEngine TooDeep))
 
 module _ {V : Type 0} (room : ℕ) where
   -- a value on top of the frame
   abbrev pub pushed : Registers → V → Result (Effect V) Fault
-  pushed m v = cond (nat_lt m.len room) (Ok (Put m.len v (onward m (m.len + 1)))) impossible
+  pushed m v = cond (nat_lt m.len room) (Ok (Put (onward m (m.len + 1)) m.len v)) impossible
 
   -- a full frame comes before the reading's fault
   abbrev pub weighed : Rules V → Registers → ℕ → Reading → Result (Effect V) Fault
@@ -83,14 +83,14 @@ module _ {V : Type 0} (room : ℕ) where
   abbrev pub resumed : Registers → V → Return → Result (Effect V) Fault
   resumed m v e =
       cond (may_return room m.base e.base (m.nesting - 1))
-      (Ok (Put 0 v (at e.next e.base (m.base - e.base + 1) (m.nesting - 1))))
+      (Ok (Put (at e.next e.base (m.base - e.base + 1) (m.nesting - 1)) 0 v))
       impossible
 
   -- at the nesting 0 the run ends
   abbrev pub backed : Registers → V → List Return → Result (Effect V) Fault
   backed m v table =
       cond (m.nesting == 0)
-      (Ok (End v (at m.index m.base 1 0)))
+      (Ok (End (at m.index m.base 1 0) v))
       (resumed m v (slice_index_or table (m.nesting - 1) (record { base = 0; next = 0 })))
 
   module _ (rules : Rules V) (held : ℕ → Reading) (count : ℕ) where
@@ -131,10 +131,10 @@ module _ {V : Type 0} where
 
   -- nothing is written below the base, and a fault changes nothing
   abbrev pub carried : Rules V → Registers → List V → List Return → Result (Effect V) Fault → Stepped V
-  carried rules m stack table (Ok (Put p v n)) = stepped (Ok None) n (slice_set stack (m.base + p) v) table
+  carried rules m stack table (Ok (Put n p v)) = stepped (Ok None) n (slice_set stack (m.base + p) v) table
   carried rules m stack table (Ok (Move n)) = stepped (Ok None) n stack table
-  carried rules m stack table (Ok (Enter e n)) = stepped (Ok None) n stack (slice_set table m.nesting e)
-  carried rules m stack table (Ok (End v n)) = stepped (Ok (Some (rules.shown v))) n (slice_set stack m.base v) table
+  carried rules m stack table (Ok (Enter n e)) = stepped (Ok None) n stack (slice_set table m.nesting e)
+  carried rules m stack table (Ok (End n v)) = stepped (Ok (Some (rules.shown v))) n (slice_set stack m.base v) table
   carried rules m stack table (Err fault) = stepped (Err fault) m stack table
 
   abbrev pub step : ℕ → Rules V → (ℕ → Reading) → ℕ → List ℕ → Registers → List V → List Return → Stepped V

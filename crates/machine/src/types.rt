@@ -40,10 +40,10 @@ pub struct Return {
 // the frame; only a move; an entry to save; or the end of the run, with its value.
 #[derive(Clone, Copy, PartialEq, Eq, Debug)]
 pub enum Effect<V> {
-    Put(usize, V, Registers),
+    Put(Registers, usize, V),
     Move(Registers),
-    Enter(Return, Registers),
-    End(V, Registers),
+    Enter(Registers, Return),
+    End(Registers, V),
 }
 
 // How a run stands: it goes on; its allowance is used; it ended with a value, as shown; or with a fault.

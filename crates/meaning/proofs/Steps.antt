@@ -262,7 +262,7 @@ module _ {V : Type 0} (rules : Rules V) (held : ℕ → Reading) (count : ℕ) (
   -- the entry of the newest waiting frame leads back to it
   resumes : (i : ℕ) (F : List V) (v : V) (k : Saved V) (K : List (Saved V)) (T : List Return) → Kept (k ∷ K) T
       → backed frame_room (registers_of (spot i F (k ∷ K))) v T
-      ≡ Ok (Put 0 v (at k.back (length (flat K)) (length (flat (k ∷ K)) - length (flat K) + 1) (length (k ∷ K) - 1)))
+      ≡ Ok (Put (at k.back (length (flat K)) (length (flat (k ∷ K)) - length (flat K) + 1) (length (k ∷ K) - 1)) 0 v)
   resumes i F v k K T t =
       let a = length-append (flat K) k.rest in let u = flat_short K T t.2 in let t0 = t.0 in
       let p : length (k ∷ K) - 1 ≡ length K = omega arith in
