@@ -1,14 +1,12 @@
 -- Granted steps, one at a time.
-use Rattle.std.proofs.Common.{◌≡◌, ℕ, ◌+◌, ◌<◌, ◌≤◌, true, false, cond, ◌||◌, ltb, ◌⊎◌, List, drop, Ok, Err, Result, sym, refl, ap, ◌∙◌, subst, inl, inr, arith}
-use Rattle.std.proofs.lemmas.Bool.{cond-true, cond-false, cond_both, lt-ltb, le-ltb, ltb-true, ltb-false}
+use Rattle.std.proofs.Common.{◌≡◌, ℕ, ◌+◌, ◌-◌, ◌<◌, ◌≤◌, min, true, false, ◌||◌, ltb, List, drop, ℤ, Some, None, Option, Ok, Err, Result, sym, refl, ap, ◌∙◌, subst, inl, inr, arith}
+use Rattle.std.proofs.lemmas.Bool.{cond-true, cond-false, lt-ltb, le-ltb, cases_lt}
 use Rattle.std.proofs.lemmas.Bool.Decides.{nat_tests}
 use Rattle.arithmetic.specs.Rules.{Rules}
 use Rattle.reading.specs.Answers.{Reading}
 use Rattle.machine.specs.declared.fault.Fault.{Fault}
 use Rattle.machine.specs.declared.types.Effect.{Effect}
 use Rattle.machine.specs.declared.types.Effect.TheVariants.{Put, Move, Enter, End}
-use Rattle.machine.specs.declared.types.Progress.{Progress}
-use Rattle.machine.specs.declared.types.Progress.TheVariants.{GoesOn, Ends}
 use Rattle.machine.specs.declared.types.Registers.{Registers}
 use Rattle.machine.specs.declared.types.Return.{Return}
 use Rattle.machine.specs.declared.types.Status.{Status}
@@ -18,27 +16,27 @@ use Rattle.machine.specs.Runs.{Run, Scene, cost, granted, is_going, scene, settl
 use Rattle.machine.proofs.Grants.{granted_next, stopped_by}
 use Rattle.engine.specs.Loops.{run_after, run_at, standing, stops}
 
-goes_on_is : (answer : Result Progress Fault) → stops answer ≡ false → answer ≡ Ok GoesOn
-goes_on_is (Ok GoesOn) h = refl
-goes_on_is (Ok (Ends grams)) h = cc
+goes_on_is : (answer : Result (Option ℤ) Fault) → stops answer ≡ false → answer ≡ Ok None
+goes_on_is (Ok None) h = refl
+goes_on_is (Ok (Some grams)) h = cc
 goes_on_is (Err fault) h = cc
 
-stop_stops : (answer : Result Progress Fault) (index used allowance : ℕ) → stops answer ≡ true → is_going (status_after answer index used allowance) ≡ false
-stop_stops (Ok GoesOn) index used allowance h = cc
-stop_stops (Ok (Ends grams)) index used allowance h = refl
+stop_stops : (answer : Result (Option ℤ) Fault) (index used allowance : ℕ) → stops answer ≡ true → is_going (status_after answer index used allowance) ≡ false
+stop_stops (Ok None) index used allowance h = cc
+stop_stops (Ok (Some grams)) index used allowance h = refl
 stop_stops (Err fault) index used allowance h = refl
 
 -- a fault leaves the index as it was
 module _ {V : Type 0} (rules : Rules V) (m : Registers) (s : List V) (t : List Return) where
   stays_there : (e : Result (Effect V) Fault) (used allowance : ℕ) →
       status_after (carried rules m s t e).answer m.index used allowance ≡ status_after (carried rules m s t e).answer (carried rules m s t e).registers.index used allowance
-  stays_there (Ok (Put p v n)) used allowance = refl
+  stays_there (Ok (Put n p v)) used allowance = refl
   stays_there (Ok (Move n)) used allowance = refl
-  stays_there (Ok (Enter e n)) used allowance = refl
-  stays_there (Ok (End v n)) used allowance = refl
+  stays_there (Ok (Enter n e)) used allowance = refl
+  stays_there (Ok (End n v)) used allowance = refl
   stays_there (Err f) used allowance = refl
 
-  same_place : (e : Result (Effect V) Fault) (used allowance : ℕ) (answer : Result Progress Fault) (n : Registers) (s' : List V) (t' : List Return) →
+  same_place : (e : Result (Effect V) Fault) (used allowance : ℕ) (answer : Result (Option ℤ) Fault) (n : Registers) (s' : List V) (t' : List Return) →
       stepped answer n s' t' ≡ carried rules m s t e →
       status_after answer m.index used allowance ≡ status_after answer n.index used allowance
   same_place e used allowance answer n s' t' does =
@@ -58,7 +56,7 @@ module _ {V : Type 0} (rules : Rules V) (held : ℕ → Reading) (count : ℕ) (
         ∙ ap (λ (st : Status). turned frame_room rules held count image (scene (run_at r m k st) s t)) (cond-true (ltb (r.used + k) r.allowance) Going Spent (lt-ltb (r.used + k) r.allowance left))
 
     -- what the step answers, and what it leaves
-    module _ (answer : Result Progress Fault) (n : Registers) (s' : List V) (t' : List Return) (does : stepped answer n s' t' ≡ step frame_room rules held count image m s t) where
+    module _ (answer : Result (Option ℤ) Fault) (n : Registers) (s' : List V) (t' : List Return) (does : stepped answer n s' t' ≡ step frame_room rules held count image m s t) where
       answered : granted frame_room rules held count image (k + 1) x ≡ settled (run_at r m k Going) (stepped answer n s' t')
       answered = next_turn ∙ ap (settled (run_at r m k Going)) (sym does)
 
@@ -66,7 +64,7 @@ module _ {V : Type 0} (rules : Rules V) (held : ℕ → Reading) (count : ℕ) (
       goes_on on =
           let sum : r.used + k + 1 ≡ r.used + (k + 1) = omega arith in
           answered
-          ∙ ap (λ (a : Result Progress Fault). settled (run_at r m k Going) (stepped a n s' t')) (goes_on_is answer on)
+          ∙ ap (λ (a : Result (Option ℤ) Fault). settled (run_at r m k Going) (stepped a n s' t')) (goes_on_is answer on)
           ∙ ap (λ (u : ℕ). scene (record { registers = n; used = u; allowance = r.allowance; status = standing u r.allowance }) s' t') sum
 
       pub ends : (grant : ℕ) → k < grant → stops answer ≡ true → granted frame_room rules held count image grant x ≡ scene (run_after r n k answer) s' t'
@@ -79,19 +77,16 @@ module _ {V : Type 0} (rules : Rules V) (held : ℕ → Reading) (count : ℕ) (
           (stop_stops answer n.index used r.allowance stop) (omega arith)
 
   -- all of the grant is made, or all of the allowance is used
-  pub all_made : (k grant : ℕ) (m : Registers) (s : List V) (t : List Return) → After k m s t → k ≤ grant → (k ≡ grant) ⊎ (r.allowance ≤ r.used + k) →
-      granted frame_room rules held count image grant x ≡ scene (run_at r m k (standing (r.used + k) r.allowance)) s t
-  all_made k grant m s t now within (inl e) = ap (λ (n : ℕ). granted frame_room rules held count image n x) (sym e) ∙ now
-  all_made k grant m s t now within (inr h) =
-      stopped_by frame_room rules held count image k grant x (scene (run_at r m k (standing (r.used + k) r.allowance)) s t) now
-      (ap is_going (cond-false (ltb (r.used + k) r.allowance) Going Spent (le-ltb (r.used + k) r.allowance h))) within
-
-pub lesser_is : (a b r : ℕ) → r ≡ cond (ltb a b) a b → (r ≤ a) × (r ≤ b) × ((r ≡ b) ⊎ (r ≡ a))
-lesser_is a b r e =
-    subst (λ (n : ℕ). (n ≤ a) × (n ≤ b) × ((n ≡ b) ⊎ (n ≡ a))) (sym e)
-    (cond_both (ltb a b) a b (λ (n : ℕ). (n ≤ a) × (n ≤ b) × ((n ≡ b) ⊎ (n ≡ a)))
-    (λ h. let l = ltb-true a b h in (omega arith, omega arith, inr refl))
-    (λ h. let l = ltb-false a b h in (omega arith, omega arith, inl refl)))
+  pub all_made : (k most grant : ℕ) (m : Registers) (s : List V) (t : List Return) → After k m s t → k ≡ most → most ≡ min grant (r.allowance - r.used) → r.used < r.allowance →
+      granted frame_room rules held count image grant x ≡ scene (run_at r m most (standing (r.used + most) r.allowance)) s t
+  all_made k most grant m s t now all least free =
+      let made : After most m s t = subst (λ (n : ℕ). After n m s t) all now in
+      elim (cases_lt grant (r.allowance - r.used)) [
+        | inl h ↦ let e : grant ≡ most = omega arith in ap (λ (n : ℕ). granted frame_room rules held count image n x) e ∙ made
+        | inr h ↦
+            stopped_by frame_room rules held count image most grant x (scene (run_at r m most (standing (r.used + most) r.allowance)) s t) made
+            (ap is_going (cond-false (ltb (r.used + most) r.allowance) Going Spent (le-ltb (r.used + most) r.allowance (omega arith)))) (omega arith)
+      ]
 
 pub enough : (a b c d e f : ℕ) → (ltb a b || ltb c d || ltb e f) ≡ false → (b ≤ a) × (d ≤ c) × (f ≤ e)
 enough a b c d e f h = (grind (arith, nat_tests), grind (arith, nat_tests), grind (arith, nat_tests))

@@ -1,32 +1,29 @@
--- What a word does in the frame that it is lent, and what a run's readings are.
-use Rattle.std.specs.Prelude.{ℕ, ◌-◌, List, Ok, Err, Result, slice_index_or, slice_set}
+-- What a run's readings are, and what an instruction comes to in a frame.
+use Rattle.std.specs.Prelude.{ℕ, ◌-◌, ◌<◌, List, Err, Result, slice_index_or}
 use Rattle.arithmetic.specs.Rules.{Rules}
 use Rattle.reading.specs.Answers.{Reading, grams_of}
 use Rattle.reading.specs.declared.fault.ReadingFault.{ReadingFault}
 use Rattle.reading.specs.declared.fault.ReadingFault.TheVariants.{NotFitted}
 use Rattle.weight.specs.declared.weight.Weight.{Weight}
-use Rattle.machine.specs.declared.fault.ChannelFault.{ChannelFault}
 use Rattle.machine.specs.declared.fault.Fault.{Fault}
 use Rattle.machine.specs.declared.types.Effect.{Effect}
 use Rattle.machine.specs.declared.types.Effect.TheVariants.{Put, Move, Enter, End}
-use Rattle.machine.specs.declared.types.Progress.TheVariants.{GoesOn, Ends}
+use Rattle.machine.specs.declared.types.Instruction.{Instruction}
 use Rattle.machine.specs.declared.types.Registers.{Registers}
-use Rattle.machine.specs.declared.types.Return.{Return}
-use Rattle.machine.specs.Steps.{Stepped, stepped}
+use Rattle.machine.specs.Steps.{Sound, deepest, frame_room, plan}
+use Rattle.engine.specs.declared.frame.Frame.{Frame}
 
 -- the reading of a channel, channel 1 first
 abbrev pub held_at : List (Result Weight ReadingFault) → ℕ → Reading
 held_at held channel = grams_of (slice_index_or held (channel - 1) (Err NotFitted))
 
--- the same in a call's result, where the fault tells its channel
-abbrev pub heard : ℕ → Result Weight ReadingFault → Result Weight ChannelFault
-heard channel (Ok w) = Ok w
-heard channel (Err e) = Err (record { fault = e; channel = channel })
+-- what an instruction comes to in a frame
+abbrev pub comes_to : {V : Type 0} → Rules V → Frame V → Instruction → Result (Effect V) Fault
+comes_to rules f i = plan frame_room rules (held_at f.held.now) f.count f.registers f.values.now f.returns.now i
 
--- what is left of a frame and a return table by what a word comes to; the frame stands in place of the stack
-abbrev pub framed : {V : Type 0} → Rules V → Registers → List V → List Return → Result (Effect V) Fault → Stepped V
-framed rules m frame table (Ok (Put p v n)) = stepped (Ok GoesOn) n (slice_set frame p v) table
-framed rules m frame table (Ok (Move n)) = stepped (Ok GoesOn) n frame table
-framed rules m frame table (Ok (Enter e n)) = stepped (Ok GoesOn) n frame (slice_set table m.nesting e)
-framed rules m frame table (Ok (End v n)) = stepped (Ok (Ends (rules.shown v))) n (slice_set frame 0 v) table
-framed rules m frame table (Err fault) = stepped (Err fault) m frame table
+-- an effect that stays in the frame's room and in the return table, and leaves sound registers
+abbrev pub Fair : {V : Type 0} → Registers → Effect V → Type 0
+Fair m (Put n p v) = (p < frame_room) × Sound frame_room n
+Fair m (Move n) = Sound frame_room n
+Fair m (Enter n e) = (m.nesting < deepest) × Sound frame_room n
+Fair m (End n v) = Sound frame_room n

@@ -8,39 +8,42 @@ ghost use Rattle.engine.specs.Frames.{held_at};
 ghost use Rattle.engine.specs.Courses.{advanced, begun_course, course, course_of, left, too_short};
 ghost use Rattle.engine.specs.Loops.{run_after, run_at, standing, stops};
 
+use crate::frame::Held;
 use crate::run::Run;
 use crate::step::step;
-use crate::words::Held;
 use arithmetic::Arithmetic;
-use machine::{EngineFault, Fault, Progress, Registers, Return, RunFault, Status, head_count};
+use machine::{EngineFault, Fault, Registers, Return, RunFault, Status, head_count};
 
 // Whether a run ends with a step that answers so.
-fn stops(answer: Result<Progress, Fault>) -> bool
+fn stops(answer: Result<Option<i32>, Fault>) -> bool
     ensures { result ≡ stops answer }
 {
-    match answer {
-        Ok(Progress::GoesOn) => false,
-        _ => true,
-    }
+    !matches!(answer, Ok(None))
 }
 
 // What a step counts: nothing when its word can't be carried out.
-fn cost(answer: Result<Progress, Fault>) -> u64
+fn cost(answer: Result<Option<i32>, Fault>) -> u64
     ensures { result ≡ cost_of answer }
 {
-    match answer {
-        Err(Fault::OfEngine(EngineFault::Impossible)) => 0,
-        _ => 1,
+    if matches!(answer, Err(Fault::OfEngine(EngineFault::Impossible))) {
+        0
+    } else {
+        1
     }
 }
 
-fn status_after(answer: Result<Progress, Fault>, index: usize, used: u64, allowance: u64) -> Status
+fn status_after(
+    answer: Result<Option<i32>, Fault>,
+    index: usize,
+    used: u64,
+    allowance: u64,
+) -> Status
     ensures { result ≡ status_after answer index used allowance }
 {
     match answer {
-        Ok(Progress::GoesOn) if used < allowance => Status::Going,
-        Ok(Progress::GoesOn) => Status::Spent,
-        Ok(Progress::Ends(grams)) => Status::Ended(grams),
+        Ok(None) if used < allowance => Status::Going,
+        Ok(None) => Status::Spent,
+        Ok(Some(grams)) => Status::Ended(grams),
         Err(fault) => Status::Failed(RunFault { fault, index }),
     }
 }
@@ -50,12 +53,6 @@ fn too_short<N: Arithmetic>(count: usize, image: &[u32], stack: &[N], returns: &
     ensures { result ≡ too_short count image.now stack.now returns.now }
 {
     image.len() < count || stack.len() < 4128 || returns.len() < 128
-}
-
-fn lesser(a: u64, b: u64) -> u64
-    ensures { result ≡ (if nat_lt a b then a else b) }
-{
-    if a < b { a } else { b }
 }
 
 impl Run {
@@ -117,7 +114,7 @@ impl Run {
     }
 
     // The same, after one more step that ended it.
-    fn stopped(self, registers: Registers, made: u64, answer: Result<Progress, Fault>) -> Run
+    fn stopped(self, registers: Registers, made: u64, answer: Result<Option<i32>, Fault>) -> Run
         requires sound { Sound frame_room registers }
         requires fits { self.used + made < self.allowance }
         requires stops { stops answer ≡ true }
@@ -150,17 +147,15 @@ impl Run {
             ≡ granted frame_room N.Arithmetic.rules (held_at held.now) self.count image.now grant (scene (course_of self).run stack.old returns.old) }
         ensures count { result.count ≡ self.count }
     {
-        let most = lesser(self.allowance - self.used, grant);
+        let most = grant.min(self.allowance - self.used);
         let mut m = self.registers;
-        let mut made = 0;
-        while made < most {
+        for made in 0..most {
             let answer = step(image, self.count, held, &mut m, stack, returns);
             if stops(answer) {
                 return self.stopped(m, made, answer);
             }
-            made += 1;
         }
-        self.moved(m, made)
+        self.moved(m, most)
     }
 
     // Makes as many steps as are granted, fewer only where the run or its allowance ends, and tells how the run stands
@@ -179,7 +174,7 @@ impl Run {
         if too_short(self.count, image, stack, returns) {
             return None;
         }
-        if let Status::Going = self.status {
+        if self.status == Status::Going {
             *self = self.go_on(image, held, stack, returns, grant);
         }
         Some((self.status, self.used))

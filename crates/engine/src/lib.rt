@@ -2,9 +2,10 @@
 #![tactic(auto)]
 
 mod advance;
+mod frame;
 mod run;
 mod step;
 mod words;
 
+pub use frame::Held;
 pub use run::Run;
-pub use words::Held;

@@ -1,13 +1,56 @@
 // One step of a run.
-ghost use Rattle.std.specs.Prelude.{◌≡◌, ◌≤◌, length};
-ghost use Rattle.machine.specs.Steps.{Sound, frame_room, stepped, step as step_of};
-ghost use Rattle.engine.specs.Frames.{held_at};
+ghost use Rattle.std.specs.Prelude.{◌≡◌, ◌≤◌, length, Ok};
+ghost use Rattle.machine.specs.Steps.{Sound, carried, frame_room, stepped, step as step_of};
+ghost use Rattle.engine.specs.Frames.{Fair, held_at};
 
-use crate::words::{Held, IMPOSSIBLE, carry_out};
+use crate::frame::{Frame, Held};
+use crate::words::IMPOSSIBLE;
 use arithmetic::Arithmetic;
-use machine::{Fault, Instruction, Progress, Registers, Return};
+use machine::{Effect, Fault, Instruction, Registers, Return};
 
-// Carries out the word at the run's index, in the frame alone: what lies below the base is not lent to it.
+// Writes what a word comes to.
+fn carry<N: Arithmetic>(
+    effect: Effect<N>,
+    m: &mut Registers,
+    stack: &mut [N],
+    returns: &mut [Return],
+) -> Option<i32>
+    requires fair { Fair m.old effect }
+    requires sound { Sound frame_room m.old }
+    requires room { 4128 ≤ length stack.old }
+    requires table { 128 ≤ length returns.old }
+    ensures does { stepped (Ok result) m.new stack.new returns.new
+        ≡ carried N.Arithmetic.rules m.old stack.old returns.old (Ok effect) }
+    ensures sound { Sound frame_room m.new }
+{
+    match effect {
+        Effect::Put(next, place, value) => {
+            let top = m.base + place;
+            stack[top] = value;
+            *m = next;
+            None
+        }
+        Effect::Move(next) => {
+            *m = next;
+            None
+        }
+        Effect::Enter(next, entry) => {
+            let nesting = m.nesting;
+            returns[nesting] = entry;
+            *m = next;
+            None
+        }
+        Effect::End(next, value) => {
+            let base = m.base;
+            let shown = value.shown();
+            stack[base] = value;
+            *m = next;
+            Some(shown)
+        }
+    }
+}
+
+// Carries out the word at the run's index. What lies below the frame stays as it is, and a fault leaves all as it was.
 pub(crate) fn step<N: Arithmetic>(
     image: &[u32],
     count: usize,
@@ -15,7 +58,7 @@ pub(crate) fn step<N: Arithmetic>(
     m: &mut Registers,
     stack: &mut [N],
     returns: &mut [Return],
-) -> Result<Progress, Fault>
+) -> Result<Option<i32>, Fault>
     requires sound { Sound frame_room m.old }
     requires image { (count ≤ 4096) × (count ≤ length image.now) }
     requires room { 4128 ≤ length stack.old }
@@ -27,7 +70,14 @@ pub(crate) fn step<N: Arithmetic>(
     if m.index >= count {
         return Err(IMPOSSIBLE);
     }
-    let instruction = Instruction::decode(image[m.index]);
-    let base = m.base;
-    carry_out(instruction, count, held, m, &mut stack[base..], returns)
+    let registers = *m;
+    let frame = Frame {
+        registers,
+        values: &stack[registers.base..],
+        returns: &*returns,
+        held,
+        count,
+    };
+    let effect = frame.plan(Instruction::decode(image[registers.index]))?;
+    Ok(carry(effect, m, stack, returns))
 }

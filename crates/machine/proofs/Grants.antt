@@ -55,15 +55,15 @@ module _ {V : Type 0} (room : ℕ) (rules : Rules V) (held : ℕ → Reading) (c
 
 module _ {V : Type 0} (rules : Rules V) (m : Registers) (s : List V) (t : List Return) where
   pub below_carried : (e : Result (Effect V) Fault) → take m.base (carried rules m s t e).stack ≡ take m.base s
-  below_carried (Ok (Put p v n)) = take-set-le m.base s (m.base + p) v (omega arith)
+  below_carried (Ok (Put n p v)) = take-set-le m.base s (m.base + p) v (omega arith)
   below_carried (Ok (Move n)) = refl
-  below_carried (Ok (Enter e n)) = refl
-  below_carried (Ok (End v n)) = take-set-le m.base s m.base v (omega arith)
+  below_carried (Ok (Enter n e)) = refl
+  below_carried (Ok (End n v)) = take-set-le m.base s m.base v (omega arith)
   below_carried (Err f) = refl
 
   pub fault_carried : (e : Result (Effect V) Fault) (f : Fault) → (carried rules m s t e).answer ≡ Err f → carried rules m s t e ≡ stepped (Err f) m s t
-  fault_carried (Ok (Put p v n)) f h = let z : ◌≡◌ {A = ℕ} 0 1 = cc in absurd (omega arith)
+  fault_carried (Ok (Put n p v)) f h = let z : ◌≡◌ {A = ℕ} 0 1 = cc in absurd (omega arith)
   fault_carried (Ok (Move n)) f h = let z : ◌≡◌ {A = ℕ} 0 1 = cc in absurd (omega arith)
-  fault_carried (Ok (Enter e n)) f h = let z : ◌≡◌ {A = ℕ} 0 1 = cc in absurd (omega arith)
-  fault_carried (Ok (End v n)) f h = let z : ◌≡◌ {A = ℕ} 0 1 = cc in absurd (omega arith)
+  fault_carried (Ok (Enter n e)) f h = let z : ◌≡◌ {A = ℕ} 0 1 = cc in absurd (omega arith)
+  fault_carried (Ok (End n v)) f h = let z : ◌≡◌ {A = ℕ} 0 1 = cc in absurd (omega arith)
   fault_carried (Err g) f h = ap (λ (a : Result _ Fault). stepped a m s t) h

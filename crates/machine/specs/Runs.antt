@@ -1,12 +1,10 @@
 -- What granted steps make of a run.
-use Rattle.std.specs.Prelude.{ℕ, zero, suc, ◌+◌, Bool, true, false, cond, List, Ok, Err, Result, nat_lt}
+use Rattle.std.specs.Prelude.{ℕ, zero, suc, ◌+◌, Bool, true, false, cond, List, ℤ, Some, None, Option, Ok, Err, Result, nat_lt}
 use Rattle.arithmetic.specs.Rules.{Rules}
 use Rattle.reading.specs.Answers.{Reading}
 use Rattle.machine.specs.declared.fault.EngineFault.TheVariants.{TooDeep, Impossible}
 use Rattle.machine.specs.declared.fault.Fault.{Fault}
 use Rattle.machine.specs.declared.fault.Fault.TheVariants.{OfArithmetic, OfReading, OfEngine}
-use Rattle.machine.specs.declared.types.Progress.{Progress}
-use Rattle.machine.specs.declared.types.Progress.TheVariants.{GoesOn, Ends}
 use Rattle.machine.specs.declared.types.Registers.{Registers}
 use Rattle.machine.specs.declared.types.Return.{Return}
 use Rattle.machine.specs.declared.types.Status.{Status}
@@ -25,17 +23,17 @@ abbrev pub begun : ℕ → Run
 begun allowance = record { registers = at 1 0 0 0; used = 0; allowance = allowance; status = Going }
 
 -- what a step counts: a word that can't be carried out counts nothing, the word of any other fault counts
-abbrev pub cost : Result Progress Fault → ℕ
-cost (Ok progress) = 1
+abbrev pub cost : Result (Option ℤ) Fault → ℕ
+cost (Ok ended) = 1
 cost (Err (OfArithmetic e)) = 1
 cost (Err (OfReading e)) = 1
 cost (Err (OfEngine TooDeep)) = 1
 cost (Err (OfEngine Impossible)) = 0
 
 -- how the run stands after a step of the word at the index
-abbrev pub status_after : Result Progress Fault → ℕ → ℕ → ℕ → Status
-status_after (Ok GoesOn) index used allowance = cond (nat_lt used allowance) Going Spent
-status_after (Ok (Ends grams)) index used allowance = Ended grams
+abbrev pub status_after : Result (Option ℤ) Fault → ℕ → ℕ → ℕ → Status
+status_after (Ok None) index used allowance = cond (nat_lt used allowance) Going Spent
+status_after (Ok (Some grams)) index used allowance = Ended grams
 status_after (Err fault) index used allowance = Failed (record { fault = fault; index = index })
 
 -- a run with the memory lent to it

@@ -1,5 +1,5 @@
 -- What one step of a run does. A frame is the stack from its base to its top; `room` is how many values it can hold.
-use Rattle.std.specs.Prelude.{ℕ, ◌+◌, ◌-◌, ◌*◌, ◌≤◌, Bool, true, false, cond, ◌&&◌, List, drop, pos, Ok, Err, Result, ◌==◌, nat_le, nat_lt, slice_index, slice_index_or, slice_set}
+use Rattle.std.specs.Prelude.{ℕ, ◌+◌, ◌-◌, ◌*◌, ◌≤◌, Bool, true, false, cond, ◌&&◌, List, drop, ℤ, pos, Some, None, Option, Ok, Err, Result, ◌==◌, nat_le, nat_lt, slice_index, slice_index_or, slice_set}
 use Rattle.arithmetic.specs.Rules.{Answer, Rules}
 use Rattle.reading.specs.Answers.{Reading, is_channel}
 use Rattle.recipe.specs.declared.Op.{Op as Operator}
@@ -11,8 +11,6 @@ use Rattle.machine.specs.declared.types.Effect.{Effect}
 use Rattle.machine.specs.declared.types.Effect.TheVariants.{Put, Move, Enter, End}
 use Rattle.machine.specs.declared.types.Instruction.{Instruction}
 use Rattle.machine.specs.declared.types.Instruction.TheVariants.{Num, Var, Op, Out, Unless, Go, Call, Back, Weigh, Bad}
-use Rattle.machine.specs.declared.types.Progress.{Progress}
-use Rattle.machine.specs.declared.types.Progress.TheVariants.{GoesOn, Ends}
 use Rattle.machine.specs.declared.types.Registers.{Registers}
 use Rattle.machine.specs.declared.types.Return.{Return}
 use Rattle.machine.specs.Words.{decoded}
@@ -53,7 +51,7 @@ module _ {V : Type 0} where
 
   -- the two values on top give way to one
   abbrev pub joined : Registers → V → Result (Effect V) Fault
-  joined m v = Ok (Put (m.len - 2) v (onward m (m.len - 1)))
+  joined m v = Ok (Put (onward m (m.len - 1)) (m.len - 2) v)
 
   abbrev pub computed : Registers → Answer V → Result (Effect V) Fault
   computed m (Ok v) = joined m v
@@ -68,13 +66,13 @@ module _ {V : Type 0} where
   abbrev pub entered : Registers → ℕ → ℕ → Result (Effect V) Fault
   entered m arity target =
       cond (nat_lt m.nesting deepest)
-      (Ok (Enter (record { base = m.base; next = m.index + 1 }) (at target (m.base + (m.len - arity)) arity (m.nesting + 1))))
+      (Ok (Enter (at target (m.base + (m.len - arity)) arity (m.nesting + 1)) (record { base = m.base; next = m.index + 1 })))
       (Err (OfEngine TooDeep))
 
 module _ {V : Type 0} (room : ℕ) where
   -- a value on top of the frame
   abbrev pub pushed : Registers → V → Result (Effect V) Fault
-  pushed m v = cond (nat_lt m.len room) (Ok (Put m.len v (onward m (m.len + 1)))) impossible
+  pushed m v = cond (nat_lt m.len room) (Ok (Put (onward m (m.len + 1)) m.len v)) impossible
 
   -- a full frame comes before the reading's fault
   abbrev pub weighed : Rules V → Registers → ℕ → Reading → Result (Effect V) Fault
@@ -85,14 +83,14 @@ module _ {V : Type 0} (room : ℕ) where
   abbrev pub resumed : Registers → V → Return → Result (Effect V) Fault
   resumed m v e =
       cond (may_return room m.base e.base (m.nesting - 1))
-      (Ok (Put 0 v (at e.next e.base (m.base - e.base + 1) (m.nesting - 1))))
+      (Ok (Put (at e.next e.base (m.base - e.base + 1) (m.nesting - 1)) 0 v))
       impossible
 
   -- at the nesting 0 the run ends
   abbrev pub backed : Registers → V → List Return → Result (Effect V) Fault
   backed m v table =
       cond (m.nesting == 0)
-      (Ok (End v (at m.index m.base 1 0)))
+      (Ok (End (at m.index m.base 1 0) v))
       (resumed m v (slice_index_or table (m.nesting - 1) (record { base = 0; next = 0 })))
 
   module _ (rules : Rules V) (held : ℕ → Reading) (count : ℕ) where
@@ -120,23 +118,23 @@ module _ {V : Type 0} (room : ℕ) where
     abbrev pub planned : List ℕ → Registers → List V → List Return → Result (Effect V) Fault
     planned image m frame table = cond (nat_lt m.index count) (plan m frame table (decoded (slice_index image m.index))) impossible
 
--- what a step answers, and the registers and the memory after it
+-- what a step answers, the value as shown where the run ended with one, and the registers and the memory after it
 pub record Stepped (V : Type 0) : Type 0 where
-  pub answer : Result Progress Fault
+  pub answer : Result (Option ℤ) Fault
   pub registers : Registers
   pub stack : List V
   pub returns : List Return
 
 module _ {V : Type 0} where
-  abbrev pub stepped : Result Progress Fault → Registers → List V → List Return → Stepped V
+  abbrev pub stepped : Result (Option ℤ) Fault → Registers → List V → List Return → Stepped V
   stepped answer m stack table = record { answer = answer; registers = m; stack = stack; returns = table }
 
   -- nothing is written below the base, and a fault changes nothing
   abbrev pub carried : Rules V → Registers → List V → List Return → Result (Effect V) Fault → Stepped V
-  carried rules m stack table (Ok (Put p v n)) = stepped (Ok GoesOn) n (slice_set stack (m.base + p) v) table
-  carried rules m stack table (Ok (Move n)) = stepped (Ok GoesOn) n stack table
-  carried rules m stack table (Ok (Enter e n)) = stepped (Ok GoesOn) n stack (slice_set table m.nesting e)
-  carried rules m stack table (Ok (End v n)) = stepped (Ok (Ends (rules.shown v))) n (slice_set stack m.base v) table
+  carried rules m stack table (Ok (Put n p v)) = stepped (Ok None) n (slice_set stack (m.base + p) v) table
+  carried rules m stack table (Ok (Move n)) = stepped (Ok None) n stack table
+  carried rules m stack table (Ok (Enter n e)) = stepped (Ok None) n stack (slice_set table m.nesting e)
+  carried rules m stack table (Ok (End n v)) = stepped (Ok (Some (rules.shown v))) n (slice_set stack m.base v) table
   carried rules m stack table (Err fault) = stepped (Err fault) m stack table
 
   abbrev pub step : ℕ → Rules V → (ℕ → Reading) → ℕ → List ℕ → Registers → List V → List Return → Stepped V

@@ -81,30 +81,30 @@ pub record Worked : Type 0 where
   pub no_function : decoded 0xA0000001 ≡ Bad
   pub no_kind : decoded 0xF0000000 ≡ Bad
   -- steps, at the index 9 of a frame of 3 values with its base at 12
-  pub pushes : comes_to (at 9 12 3 1) (Num 5) ≡ Ok (Put 3 (pos 5) (at 10 12 4 1))
+  pub pushes : comes_to (at 9 12 3 1) (Num 5) ≡ Ok (Put (at 10 12 4 1) 3 (pos 5))
   pub full : comes_to (at 9 12 32 1) (Num 5) ≡ impossible
-  pub copies : comes_to (at 9 12 3 1) (Var 1) ≡ Ok (Put 3 (pos 900) (at 10 12 4 1))
+  pub copies : comes_to (at 9 12 3 1) (Var 1) ≡ Ok (Put (at 10 12 4 1) 3 (pos 900))
   pub not_held : comes_to (at 9 12 3 1) (Var 3) ≡ impossible
   pub out_of_range : comes_to (at 9 12 3 1) (Op Plus) ≡ Err (OfArithmetic OutOfRange)
-  pub in_range : comes_to (at 9 12 2 1) (Op Plus) ≡ Ok (Put 0 (pos 907) (at 10 12 1 1))
+  pub in_range : comes_to (at 9 12 2 1) (Op Plus) ≡ Ok (Put (at 10 12 1 1) 0 (pos 907))
   pub one_value : comes_to (at 9 12 1 1) (Op Over) ≡ impossible
-  pub removes : comes_to (at 9 12 3 1) Out ≡ Ok (Put 1 (pos 200) (at 10 12 2 1))
+  pub removes : comes_to (at 9 12 3 1) Out ≡ Ok (Put (at 10 12 2 1) 1 (pos 200))
   pub positive : comes_to (at 9 12 3 1) (Unless 20) ≡ Ok (Move (at 10 12 2 1))
   pub target_untaken : comes_to (at 9 12 3 1) (Unless 100) ≡ impossible
   pub goes : comes_to (at 9 12 3 1) (Go 0) ≡ Ok (Move (at 0 12 3 1))
   pub goes_nowhere : comes_to (at 9 12 3 1) (Go 100) ≡ impossible
-  pub enters : comes_to (at 9 12 3 1) (Call 2 20) ≡ Ok (Enter (entry 12 10) (at 20 13 2 2))
+  pub enters : comes_to (at 9 12 3 1) (Call 2 20) ≡ Ok (Enter (at 20 13 2 2) (entry 12 10))
   pub too_deep : comes_to (at 9 12 3 128) (Call 2 20) ≡ Err (OfEngine TooDeep)
   pub too_few : comes_to (at 9 12 3 128) (Call 4 20) ≡ impossible
   pub no_arguments : comes_to (at 9 12 3 1) (Call 0 20) ≡ impossible
-  pub returns : comes_to (at 9 12 3 1) Back ≡ Ok (Put 0 (pos 200) (at 40 0 13 0))
-  pub base_same : comes_to (at 9 12 3 2) Back ≡ Ok (Put 0 (pos 200) (at 41 12 1 1))
+  pub returns : comes_to (at 9 12 3 1) Back ≡ Ok (Put (at 40 0 13 0) 0 (pos 200))
+  pub base_same : comes_to (at 9 12 3 2) Back ≡ Ok (Put (at 41 12 1 1) 0 (pos 200))
   pub base_above : comes_to (at 9 11 3 2) Back ≡ impossible
-  pub base_31_below : comes_to (at 9 31 3 1) Back ≡ Ok (Put 0 (pos 200) (at 40 0 32 0))
+  pub base_31_below : comes_to (at 9 31 3 1) Back ≡ Ok (Put (at 40 0 32 0) 0 (pos 200))
   pub base_32_below : comes_to (at 9 32 3 1) Back ≡ impossible
   pub base_over_31_a_call : comes_to (at 9 63 3 3) Back ≡ impossible
-  pub ends : comes_to (at 9 0 3 0) Back ≡ Ok (End (pos 200) (at 9 0 1 0))
-  pub weighs : comes_to (at 9 12 3 1) (Weigh 1) ≡ Ok (Put 3 (pos 5) (at 10 12 4 1))
+  pub ends : comes_to (at 9 0 3 0) Back ≡ Ok (End (at 9 0 1 0) (pos 200))
+  pub weighs : comes_to (at 9 12 3 1) (Weigh 1) ≡ Ok (Put (at 10 12 4 1) 3 (pos 5))
   pub not_at_rest : comes_to (at 9 12 3 1) (Weigh 2) ≡ Err (OfReading (record { fault = NotAtRest; channel = 2 }))
   pub full_before_reading : comes_to (at 9 12 32 1) (Weigh 2) ≡ impossible
   pub no_channel : comes_to (at 9 12 3 1) (Weigh 65) ≡ impossible

@@ -5,6 +5,30 @@ ghost use Rattle.machine.specs.Words.{Small, decoded, head_count, of_kind, opera
 use crate::types::Instruction;
 use recipe::Op;
 
+// The kinds of words, by the top four bits. FN, of the kind 10, and the kinds above it ask for nothing.
+const NUM: u32 = 0;
+
+const VAR: u32 = 1;
+
+const OP: u32 = 2;
+
+const OUT: u32 = 3;
+
+const UNLESS: u32 = 4;
+
+const GO: u32 = 5;
+
+const CALL: u32 = 6;
+
+const BACK: u32 = 7;
+
+const WEIGH: u32 = 8;
+
+const HEAD: u32 = 9;
+
+// The most words of an image.
+const MOST_WORDS: usize = 4096;
+
 fn kind_of(word: u32) -> u32
     ensures { result ≡ word / 2 ^ 28 }
 {
@@ -42,15 +66,15 @@ fn instruction_of(kind: u32, operand: u32) -> Instruction
     ensures small { Small result }
 {
     match kind {
-        0 => Instruction::Num(operand),
-        1 => Instruction::Var(operand),
-        2 => operation_of(operand),
-        3 if operand == 0 => Instruction::Out,
-        4 => Instruction::Unless(operand),
-        5 => Instruction::Go(operand),
-        6 => Instruction::Call(operand >> 16, target_of(operand)),
-        7 if operand == 0 => Instruction::Back,
-        8 => Instruction::Weigh(operand),
+        NUM => Instruction::Num(operand),
+        VAR => Instruction::Var(operand),
+        OP => operation_of(operand),
+        OUT if operand == 0 => Instruction::Out,
+        UNLESS => Instruction::Unless(operand),
+        GO => Instruction::Go(operand),
+        CALL => Instruction::Call(operand >> 16, target_of(operand)),
+        BACK if operand == 0 => Instruction::Back,
+        WEIGH => Instruction::Weigh(operand),
         _ => Instruction::Bad,
     }
 }
@@ -69,12 +93,8 @@ impl Instruction {
 pub fn head_count(image: &[u32]) -> Option<usize>
     ensures { result ≡ head_count image.now }
 {
-    if image.len() == 0 || kind_of(image[0]) != 9 {
-        return None;
-    }
-    let count = operand_of(image[0]) as usize;
-    if count < 2 || count > 4096 || count > image.len() {
-        return None;
-    }
-    Some(count)
+    let head = *image.first()?;
+    let count = operand_of(head) as usize;
+    let fits = (2..=MOST_WORDS).contains(&count) && count <= image.len();
+    (kind_of(head) == HEAD && fits).then_some(count)
 }

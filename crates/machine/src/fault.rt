@@ -4,13 +4,13 @@ ghost use Rattle.machine.specs.Faults.{channel_of, engine_number, fault_number, 
 ghost use Rattle.machine.specs.declared.fault.Fault.TheVariants.{OfArithmetic, OfReading};
 
 use arithmetic::ArithmeticFault;
-use reading::ReadingFault;
+use reading::{AtChannel, ReadingFault};
 
 // The faults of the machine itself.
-#[derive(Clone, Copy)]
+#[derive(Clone, Copy, PartialEq, Eq, Debug)]
 pub enum EngineFault {
-    TooDeep,
-    Impossible,
+    TooDeep = 51,
+    Impossible = 52,
 }
 
 impl EngineFault {
@@ -18,21 +18,14 @@ impl EngineFault {
     pub fn number(self) -> u8
         ensures { result ≡ engine_number self }
     {
-        match self {
-            EngineFault::TooDeep => 51,
-            EngineFault::Impossible => 52,
-        }
+        self as u8
     }
 }
 
 // A reading's fault, with its channel.
-#[derive(Clone, Copy)]
-pub struct ChannelFault {
-    pub fault: ReadingFault,
-    pub channel: u32,
-}
+pub type ChannelFault = AtChannel<ReadingFault>;
 
-#[derive(Clone, Copy)]
+#[derive(Clone, Copy, PartialEq, Eq, Debug)]
 pub enum Fault {
     OfArithmetic(ArithmeticFault),
     OfReading(ChannelFault),
@@ -40,7 +33,7 @@ pub enum Fault {
 }
 
 // Where a fault comes from.
-#[derive(Clone, Copy)]
+#[derive(Clone, Copy, PartialEq, Eq, Debug)]
 pub enum Layer {
     Arithmetic,
     Reading,
@@ -97,7 +90,7 @@ impl Fault {
 }
 
 // The fault that ended a run, with the index of its word.
-#[derive(Clone, Copy)]
+#[derive(Clone, Copy, PartialEq, Eq, Debug)]
 pub struct RunFault {
     pub fault: Fault,
     pub index: usize,

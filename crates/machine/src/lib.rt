@@ -8,4 +8,4 @@ mod types;
 
 pub use decode::head_count;
 pub use fault::{ChannelFault, EngineFault, Fault, Layer, RunFault};
-pub use types::{Effect, Instruction, Progress, Registers, Return, Status};
+pub use types::{Effect, Instruction, Registers, Return, Status};

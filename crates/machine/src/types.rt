@@ -2,8 +2,9 @@
 use crate::fault::RunFault;
 use recipe::Op;
 
-// What an image word asks for. Bad is a word that asks for nothing that can be done.
-#[derive(Clone, Copy)]
+// What an image word asks for. A word that asks for nothing that can be done is Bad, and no refusal: it stands in images
+// as every other word does, and carrying it out is the impossible fault.
+#[derive(Clone, Copy, PartialEq, Eq, Debug)]
 pub enum Instruction {
     Num(u32),
     Var(u32),
@@ -20,7 +21,7 @@ pub enum Instruction {
 
 // Where a run stands: the index of its next word, the stack place at which its frame starts, the number of values
 // in the frame, and the number of calls that it is inside of.
-#[derive(Clone, Copy)]
+#[derive(Clone, Copy, PartialEq, Eq, Debug)]
 pub struct Registers {
     pub index: usize,
     pub base: usize,
@@ -29,7 +30,7 @@ pub struct Registers {
 }
 
 // An entry of the return table: the caller's base, and the index after its call.
-#[derive(Clone, Copy)]
+#[derive(Clone, Copy, PartialEq, Eq, Debug)]
 pub struct Return {
     pub base: u32,
     pub next: u32,
@@ -37,23 +38,16 @@ pub struct Return {
 
 // What a word comes to, before anything is written, each with the registers after it: a value to put at a place of
 // the frame; only a move; an entry to save; or the end of the run, with its value.
-#[derive(Clone, Copy)]
+#[derive(Clone, Copy, PartialEq, Eq, Debug)]
 pub enum Effect<V> {
-    Put(usize, V, Registers),
+    Put(Registers, usize, V),
     Move(Registers),
-    Enter(Return, Registers),
-    End(V, Registers),
-}
-
-// After a step without a fault: the run goes on, or has ended with a value, as shown.
-#[derive(Clone, Copy)]
-pub enum Progress {
-    GoesOn,
-    Ends(i32),
+    Enter(Registers, Return),
+    End(Registers, V),
 }
 
 // How a run stands: it goes on; its allowance is used; it ended with a value, as shown; or with a fault.
-#[derive(Clone, Copy)]
+#[derive(Clone, Copy, PartialEq, Eq, Debug)]
 pub enum Status {
     Going,
     Spent,

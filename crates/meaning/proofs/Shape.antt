@@ -1,9 +1,8 @@
 -- Frames as lists, the states of the machine that stand for them, and what leads from one to another.
-use Rattle.std.proofs.Common.{◌≡◌, ℕ, zero, suc, ◌+◌, ◌≤◌, List, [], ◌∷◌, ◌++◌, length, get_or, Ok, Err, sym, refl, ap, subst, suc-add, zero-add, arith}
+use Rattle.std.proofs.Common.{◌≡◌, ℕ, zero, suc, ◌+◌, ◌≤◌, List, [], ◌∷◌, ◌++◌, length, get_or, None, Ok, Err, sym, refl, ap, subst, suc-add, zero-add, arith}
 use Rattle.arithmetic.specs.Rules.{Rules}
 use Rattle.reading.specs.Answers.{Reading}
 use Rattle.machine.specs.declared.fault.RunFault.{RunFault}
-use Rattle.machine.specs.declared.types.Progress.TheVariants.{GoesOn}
 use Rattle.machine.specs.declared.types.Registers.{Registers}
 use Rattle.machine.specs.declared.types.Return.{Return}
 use Rattle.machine.specs.Steps.{frame_room, at, Stepped, stepped, step}
@@ -45,7 +44,7 @@ stack_of a spare = flat a.saved ++ (a.frame ++ spare)
 
 -- The state that stands for it, with the places of the stack above the frame and the return table.
 abbrev pub state : {V : Type 0} → Here V → List V → List Return → Stepped V
-state a spare T = stepped (Ok GoesOn) (registers_of a) (stack_of a spare) T
+state a spare T = stepped (Ok None) (registers_of a) (stack_of a spare) T
 
 pub record Fits {V : Type 0} (a : Here V) (spare : List V) (T : List Return) : Type 0 where
   pub table : Kept a.saved T
@@ -80,7 +79,7 @@ module _ {V : Type 0} (rules : Rules V) (held : ℕ → Reading) (count : ℕ) (
   -- n steps, all without a fault or an end, lead from x to y
   abbrev pub Goes : ℕ → Stepped V → Stepped V → Type 0
   Goes zero x y = x ≡ y
-  Goes (suc n) x y = ((next x).answer ≡ Ok GoesOn) × Goes n (next x) y
+  Goes (suc n) x y = ((next x).answer ≡ Ok None) × Goes n (next x) y
 
   pub goes_on : (m n : ℕ) (x y z : Stepped V) → Goes m x y → Goes n y z → Goes (m + n) x z
   goes_on zero n x y z p q = rw zero-add (subst (λ (w : Stepped V). Goes n w z) (sym p) q)

@@ -1,5 +1,5 @@
 -- What each word does to frames.
-use Rattle.std.proofs.Common.{◌≡◌, ℕ, ◌+◌, ◌-◌, ◌*◌, ◌<◌, ◌≤◌, Bool, true, false, cond, ◌&&◌, eqb, ltb, leb, ◌≢◌, List, [], ◌∷◌, ◌++◌, length, get_or, set, pos, Ok, Err, Result, sym, refl, ap, ◌∙◌, ap₂, append_assoc, not-suc-le-zero, arith, length-append, length-set, get_or-set_other, get_or-set_same}
+use Rattle.std.proofs.Common.{◌≡◌, ℕ, ◌+◌, ◌-◌, ◌*◌, ◌<◌, ◌≤◌, Bool, true, false, cond, ◌&&◌, eqb, ltb, leb, ◌≢◌, List, [], ◌∷◌, ◌++◌, length, get_or, set, pos, Some, None, Ok, Err, Result, sym, refl, ap, ◌∙◌, ap₂, append_assoc, not-suc-le-zero, arith, length-append, length-set, get_or-set_other, get_or-set_same}
 use lib.ListN.{get_or-append}
 use lib.Seq.{get_or_at, set_at, drop-append_seam}
 use Rattle.std.proofs.lemmas.Bool.{cond-true, cond-false, lt-ltb, le-ltb, le-leb, ne_eqb, and_from}
@@ -13,7 +13,6 @@ use Rattle.machine.specs.declared.types.Effect.{Effect}
 use Rattle.machine.specs.declared.types.Effect.TheVariants.{Put}
 use Rattle.machine.specs.declared.types.Instruction.{Instruction}
 use Rattle.machine.specs.declared.types.Instruction.TheVariants.{Num, Var, Op, Out, Unless, Go, Call, Back, Weigh}
-use Rattle.machine.specs.declared.types.Progress.TheVariants.{GoesOn, Ends}
 use Rattle.machine.specs.declared.types.Return.{Return}
 use Rattle.machine.specs.Words.{decoded}
 use Rattle.machine.specs.Steps.{frame_room, applied, at, Stepped, stepped, carried, plan, pushed, joined, computed, weighed as weighing}
@@ -33,20 +32,20 @@ kept_set (x ∷ K) T n e h k =
     (k.0, get_or-set_other T n (length K) e no_entry a ∙ k.1, kept_set K T n e (omega arith) k.2)
 
 -- A list that is not empty.
-record Some {V : Type 0} (l : List V) : Type 0 where
+record NotEmpty {V : Type 0} (l : List V) : Type 0 where
   first : V
   rest : List V
   is : l ≡ first ∷ rest
 
-some : {V : Type 0} (l : List V) → 0 < length l → Some l
-some [] h = absurd (not-suc-le-zero h)
-some (x ∷ l) h = record { first = x; rest = l; is = refl }
+not_empty : {V : Type 0} (l : List V) → 0 < length l → NotEmpty l
+not_empty [] h = absurd (not-suc-le-zero h)
+not_empty (x ∷ l) h = record { first = x; rest = l; is = refl }
 
 -- some room is left above a frame
-room : {V : Type 0} (a : Here V) (spare : List V) (T : List Return) → Fits a spare T → Some spare
+room : {V : Type 0} (a : Here V) (spare : List V) (T : List Return) → Fits a spare T → NotEmpty spare
 room a spare T h =
     let f = flat_short a.saved T h.table in let n = h.few in let d = h.deep in let l = h.large in
-    some spare (omega arith)
+    not_empty spare (omega arith)
 
 -- the image has the word w at the index i
 pub record WordAt (count : ℕ) (memory : List ℕ) (i w : ℕ) : Type 0 where
@@ -60,13 +59,13 @@ module _ {V : Type 0} where
 
   -- equal in all parts
   same : {j j' b b' l l' n n' : ℕ} {S S' : List V} {T T' : List Return} → j ≡ j' → b ≡ b' → l ≡ l' → n ≡ n' → S ≡ S' → T ≡ T'
-      → stepped (Ok GoesOn) (at j b l n) S T ≡ stepped (Ok GoesOn) (at j' b' l' n') S' T'
-  same p q r s u w = λ i. stepped (Ok GoesOn) (at (p i) (q i) (r i) (s i)) (u i) (w i)
+      → stepped (Ok None) (at j b l n) S T ≡ stepped (Ok None) (at j' b' l' n') S' T'
+  same p q r s u w = λ i. stepped (Ok None) (at (p i) (q i) (r i) (s i)) (u i) (w i)
 
   -- a value put on top of F
   put : (K : List (Saved V)) (F : List V) (z v : V) (rest : List V) (T : List Return) (S : List V) (j n p : ℕ)
       → S ≡ flat K ++ (F ++ (z ∷ rest)) → n ≡ length F + 1 → p ≡ length F
-      → stepped (Ok GoesOn) (at j (length (flat K)) n (length K)) (set S (length (flat K) + p) v) T ≡ state (spot j (F ++ (v ∷ [])) K) rest T
+      → stepped (Ok None) (at j (length (flat K)) n (length K)) (set S (length (flat K) + p) v) T ≡ state (spot j (F ++ (v ∷ [])) K) rest T
   put K F z v rest T S j n p e en ep =
       let a = length-append F (v ∷ []) in let b = length-append (flat K) F in
       same refl refl (omega arith) refl
@@ -199,7 +198,7 @@ module _ {V : Type 0} (rules : Rules V) (held : ℕ → Reading) (count : ℕ) (
       (record { table = c.table; few = omega arith; deep = c.deep; large = omega arith; long = c.long })
     where
       goes : (b : Bool) → carried_at rules (spot i (F ++ (v ∷ [])) K) spare T (branched (registers_of (spot i (F ++ (v ∷ [])) K)) t b)
-          ≡ stepped (Ok GoesOn) (at (cond b (i + 1) t) (length (flat K)) (length (F ++ (v ∷ [])) - 1) (length K)) (stack_of (spot i (F ++ (v ∷ [])) K) spare) T
+          ≡ stepped (Ok None) (at (cond b (i + 1) t) (length (flat K)) (length (F ++ (v ∷ [])) - 1) (length K)) (stack_of (spot i (F ++ (v ∷ [])) K) spare) T
       goes true = refl
       goes false = refl
 
@@ -263,7 +262,7 @@ module _ {V : Type 0} (rules : Rules V) (held : ℕ → Reading) (count : ℕ) (
   -- the entry of the newest waiting frame leads back to it
   resumes : (i : ℕ) (F : List V) (v : V) (k : Saved V) (K : List (Saved V)) (T : List Return) → Kept (k ∷ K) T
       → backed frame_room (registers_of (spot i F (k ∷ K))) v T
-      ≡ Ok (Put 0 v (at k.back (length (flat K)) (length (flat (k ∷ K)) - length (flat K) + 1) (length (k ∷ K) - 1)))
+      ≡ Ok (Put (at k.back (length (flat K)) (length (flat (k ∷ K)) - length (flat K) + 1) (length (k ∷ K) - 1)) 0 v)
   resumes i F v k K T t =
       let a = length-append (flat K) k.rest in let u = flat_short K T t.2 in let t0 = t.0 in
       let p : length (k ∷ K) - 1 ≡ length K = omega arith in
@@ -279,7 +278,7 @@ module _ {V : Type 0} (rules : Rules V) (held : ℕ → Reading) (count : ℕ) (
       let n = length-append F (v ∷ []) in let a = length-append (flat K) k.rest in let g = length-append k.rest (v ∷ []) in
       let t = c.table.0 in let dd = c.deep in let l = c.large in
       let o = length-append (F ++ (v ∷ [])) spare in
-      let z = some ((F ++ (v ∷ [])) ++ spare) (omega arith) in let zn = ap length z.is in
+      let z = not_empty ((F ++ (v ∷ [])) ++ spare) (omega arith) in let zn = ap length z.is in
       leads_one rules held count memory (spot i (F ++ (v ∷ [])) (k ∷ K)) (spot k.back (k.rest ++ (v ∷ [])) K) spare z.rest T T
       (backs w i F v (k ∷ K) spare T h d
       ∙ (ap (carried_at rules (spot i (F ++ (v ∷ [])) (k ∷ K)) spare T) (resumes i (F ++ (v ∷ [])) v k K T c.table)
@@ -294,7 +293,7 @@ module _ {V : Type 0} (rules : Rules V) (held : ℕ → Reading) (count : ℕ) (
 
   -- the end
   pub ends_back : (w i : ℕ) (F : List V) (v : V) (spare : List V) (T : List Return) → WordAt count memory i w → decoded w ≡ Back → Fits (spot i (F ++ (v ∷ [])) []) spare T
-      → ((next rules held count memory (state (spot i (F ++ (v ∷ [])) []) spare T)).answer ≡ Ok (Ends (rules.shown v)))
+      → ((next rules held count memory (state (spot i (F ++ (v ∷ [])) []) spare T)).answer ≡ Ok (Some (rules.shown v)))
       × (get_or (next rules held count memory (state (spot i (F ++ (v ∷ [])) []) spare T)).stack 0 (rules.whole (pos 0)) ≡ v)
   ends_back w i F v spare T h d c =
       let e = backs w i F v [] spare T h d in

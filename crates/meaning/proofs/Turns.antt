@@ -1,11 +1,9 @@
 -- Granted steps, and what the machine's steps come to in them.
-use Rattle.std.proofs.Common.{◌≡◌, ℕ, zero, suc, ◌+◌, ◌<◌, ◌≤◌, ltb, List, Ok, Result, refl, ap, ◌∙◌, le_of_suc-le-suc, not-suc-le-zero, arith}
+use Rattle.std.proofs.Common.{◌≡◌, ℕ, zero, suc, ◌+◌, ◌<◌, ◌≤◌, ltb, List, ℤ, None, Option, Ok, Result, refl, ap, ◌∙◌, le_of_suc-le-suc, not-suc-le-zero, arith}
 use Rattle.std.proofs.lemmas.Bool.{cond-true, cond-false, lt-ltb, le-ltb}
 use Rattle.arithmetic.specs.Rules.{Rules}
 use Rattle.reading.specs.Answers.{Reading}
 use Rattle.machine.specs.declared.fault.Fault.{Fault}
-use Rattle.machine.specs.declared.types.Progress.{Progress}
-use Rattle.machine.specs.declared.types.Progress.TheVariants.{GoesOn}
 use Rattle.machine.specs.declared.types.Registers.{Registers}
 use Rattle.machine.specs.declared.types.Status.{Status}
 use Rattle.machine.specs.declared.types.Status.TheVariants.{Going, Spent}
@@ -23,19 +21,19 @@ module _ {V : Type 0} (rules : Rules V) (held : ℕ → Reading) (count : ℕ) (
   shown_as x used allowance = scene (going x.registers used allowance) x.stack x.returns
 
   -- a run after a step with that answer
-  abbrev left : Stepped V → Registers → Result Progress Fault → ℕ → ℕ → Scene V
+  abbrev left : Stepped V → Registers → Result (Option ℤ) Fault → ℕ → ℕ → Scene V
   left x m answer used allowance =
       scene (record { registers = x.registers; used = used + cost answer; allowance = allowance; status = status_after answer m.index (used + cost answer) allowance }) x.stack x.returns
 
-  turn : (x : Stepped V) (used allowance : ℕ) (answer : Result Progress Fault) → (next rules held count memory x).answer ≡ answer
+  turn : (x : Stepped V) (used allowance : ℕ) (answer : Result (Option ℤ) Fault) → (next rules held count memory x).answer ≡ answer
       → granted frame_room rules held count memory 1 (shown_as x used allowance) ≡ left (next rules held count memory x) x.registers answer used allowance
   unfolding next
-  turn x used allowance answer e = ap (λ (a : Result Progress Fault). left (next rules held count memory x) x.registers a used allowance) e
+  turn x used allowance answer e = ap (λ (a : Result (Option ℤ) Fault). left (next rules held count memory x) x.registers a used allowance) e
 
-  turn_on : (x : Stepped V) (used allowance : ℕ) → (next rules held count memory x).answer ≡ Ok GoesOn → used + 1 < allowance
+  turn_on : (x : Stepped V) (used allowance : ℕ) → (next rules held count memory x).answer ≡ Ok None → used + 1 < allowance
       → granted frame_room rules held count memory 1 (shown_as x used allowance) ≡ shown_as (next rules held count memory x) (used + 1) allowance
   turn_on x used allowance e h =
-      turn x used allowance (Ok GoesOn) e
+      turn x used allowance (Ok None) e
       ∙ ap (λ (s : Status). scene (record { registers = (next rules held count memory x).registers; used = used + 1; allowance = allowance; status = s }) (next rules held count memory x).stack (next rules held count memory x).returns)
       (cond-true (ltb (used + 1) allowance) Going Spent (lt-ltb (used + 1) allowance h))
 
@@ -59,7 +57,7 @@ module _ {V : Type 0} (rules : Rules V) (held : ℕ → Reading) (count : ℕ) (
       → ((granted frame_room rules held count memory (suc n) (shown_as x used allowance)).run.status ≡ Spent)
       × ((granted frame_room rules held count memory (suc n) (shown_as x used allowance)).run.used ≡ allowance)
   granted_spent zero x y used allowance p h =
-      let e = turn x used allowance (Ok GoesOn) p.0 in (
+      let e = turn x used allowance (Ok None) p.0 in (
         ap (λ (s : Scene V). s.run.status) e ∙ cond-false (ltb (used + 1) allowance) Going Spent (le-ltb (used + 1) allowance (omega arith)),
         ap (λ (s : Scene V). s.run.used) e ∙ h,
       )
@@ -75,7 +73,7 @@ module _ {V : Type 0} (rules : Rules V) (held : ℕ → Reading) (count : ℕ) (
   first_of (suc j) (suc n) x y p h = let r = first_of j n (next rules held count memory x) y p.1 (le_of_suc-le-suc h) in (r.0, (p.0, r.1))
 
   -- the last step of a run
-  pub granted_last : (n : ℕ) (x y : Stepped V) (allowance : ℕ) (answer : Result Progress Fault) → Goes rules held count memory n x y → n < allowance → (next rules held count memory y).answer ≡ answer
+  pub granted_last : (n : ℕ) (x y : Stepped V) (allowance : ℕ) (answer : Result (Option ℤ) Fault) → Goes rules held count memory n x y → n < allowance → (next rules held count memory y).answer ≡ answer
       → granted frame_room rules held count memory (n + 1) (shown_as x 0 allowance) ≡ left (next rules held count memory y) y.registers answer n allowance
   granted_last n x y allowance answer p h e =
       let z : 0 + n ≡ n = omega arith in

@@ -1,5 +1,5 @@
 -- The whole recipe.
-use Rattle.std.proofs.Common.{◌≡◌, ℕ, zero, suc, ◌+◌, ◌-◌, ◌<◌, ◌≤◌, min, true, false, eqb, ◌⊎◌, List, [], ◌∷◌, ◌++◌, length, get_or, pos, Ok, Err, sym, refl, ap, ◌∙◌, subst, inl, inr, append_assoc, arith, length-append}
+use Rattle.std.proofs.Common.{◌≡◌, ℕ, zero, suc, ◌+◌, ◌-◌, ◌<◌, ◌≤◌, min, true, false, eqb, ◌⊎◌, List, [], ◌∷◌, ◌++◌, length, get_or, pos, Some, Ok, Err, sym, refl, ap, ◌∙◌, subst, inl, inr, append_assoc, arith, length-append}
 use mathlib.Core.Option.{some}
 use lib.Seq.{get_or_at}
 use Rattle.std.proofs.lemmas.Bool.{false≢true, or_cases, or_left, or_right, cond-true, cond-false, eq-eqb, ne_eqb, cases_lt}
@@ -12,7 +12,6 @@ use Rattle.recipe.specs.Names.{all, among, names_of, signatures, Signature, arit
 use Rattle.recipe.specs.Image.{HEAD, BACK, past, past_all, Bound, find, words, slots, entries, bodies, image}
 use Rattle.recipe.proofs.Outputs.{image_bound}
 use Rattle.machine.proofs.Decodes.{calls as decodes_call}
-use Rattle.machine.specs.declared.types.Progress.TheVariants.{Ends}
 use Rattle.machine.specs.declared.types.Return.{Return}
 use Rattle.machine.specs.declared.types.Status.TheVariants.{Failed}
 use Rattle.machine.specs.Steps.{Stepped}
@@ -148,7 +147,7 @@ module _ {V : Type 0} (rules : Rules V) (held : ℕ → Reading) (count : ℕ) (
       let y = state (spot i (v ∷ []) []) x.above x.returns in
       let b = ends_back rules held count memory _ i [] v x.above x.returns w refl x.fits in
       does_so a n y (gives v (n + 1)) x.goes refl (λ l.
-      let e = granted_last rules held count memory n (state (spot 1 [] []) stack table) y allowance (Ok (Ends (rules.shown v))) x.goes l b.0 in
+      let e = granted_last rules held count memory n (state (spot 1 [] []) stack table) y allowance (Ok (Some (rules.shown v))) x.goes l b.0 in
       (ap (λ (s : Scene V). s.run.status) e, ap (λ (s : Scene V). s.run.used) e, ap (λ (s : Scene V). get_or s.stack 0 (rules.whole (pos 0))) e ∙ b.1))
   carries a i (faults f n) w p =
       let x = p stack table begins in

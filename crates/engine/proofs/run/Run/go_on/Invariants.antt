@@ -1,4 +1,3 @@
-use Rattle.std.proofs.Common.{◌-◌, ◌≤◌}
 use Rattle.machine.specs.Steps.{Sound, frame_room}
 use Rattle.machine.specs.Runs.{scene}
 use Rattle.engine.specs.Courses.{course_of}
@@ -7,11 +6,8 @@ use Rattle.engine.proofs.Grants.{After}
 use Rattle.engine.proofs.run.Run.go_on.Given as goal
 
 abbrev pub invariant-loop-made : goal.invariant-loop-made
-invariant-loop-made g l =
-    Sound frame_room l.m
-    × (l.made ≤ l.most)
-    × After g.N.Arithmetic.rules (held_at l.held) l.self.count l.image (course_of l.self).run
-    (scene (course_of l.self).run l.initial.stack l.initial.returns) l.made l.m l.stack l.returns
-
-abbrev pub decreases-loop-made : goal.decreases-loop-made
-decreases-loop-made g l = l.most - l.made
+invariant-loop-made g l = record {
+  sound : Sound frame_room l.m;
+  after : After g.N.Arithmetic.rules (held_at l.held) l.self.count l.image (course_of l.self).run
+      (scene (course_of l.self).run l.initial.stack l.initial.returns) l.made l.m l.stack l.returns;
+}
