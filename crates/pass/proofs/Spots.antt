@@ -1,16 +1,16 @@
 -- From one spot to the next.
-use Rattle.std.proofs.Common.{ℕ, ◌+◌, ◌*◌, ◌<◌, ◌≤◌, List, length, refl, subst, arith}
+use Rattle.std.proofs.Common.{◌≡◌, ℕ, ◌+◌, ◌*◌, ◌<◌, ◌≤◌, List, length, refl, subst, arith}
 use Rattle.lexer.specs.Lexed.{Valid, Small}
 use Rattle.pass.specs.declared.cursor.Spot.{Spot}
 use Rattle.pass.specs.declared.cursor.Level.{Level}
 use Rattle.pass.specs.declared.names.Function.{Function}
-use Rattle.pass.specs.declared.names.Scope.{Scope}
-use Rattle.pass.specs.Known.{Env, env, Kept}
+use Rattle.pass.specs.declared.names.Variable.{Variable}
+use Rattle.arrayvec.specs.ArrayVec.{ArrayVec}
+use Rattle.pass.specs.Known.{Env, env}
 use Rattle.pass.specs.Outputs.{MadeOf, Made}
 use Rattle.pass.specs.Reads.{Part, Fit, Further, Through, Gives, Carries, CarriesAll, an_expr, a_product, an_atom, sum_so_far, product_so_far, arguments_so_far}
 use Rattle.pass.proofs.Steps.{arguments_first, product_first, sum_first}
 use Rattle.pass.proofs.Makes.{made_one}
-use Rattle.pass.proofs.Lookups.{kept_env}
 use Rattle.recipe.specs.Grammar.{Expr}
 
 pub further : {text : List ℕ} {here s : Spot} → Fit text here → Valid text s.look → s.count ≤ 2000 → Small s.look.kind →
@@ -32,15 +32,17 @@ unfolding sum_first
 first_term {text = text} r = record { on = r.on; read = sum_first (length text) r.read; made = r.made }
 
 -- What is said of the names in force later is said of those in force before.
-pub as_before : {Tree : Type 0} {part : Part Tree} {Makes : MadeOf Tree} {text : List ℕ} (functions : List Function) {before after : Scope} {level : Level} {here s : Spot} {m m' : List ℕ} → Kept text before after →
-    Through part Makes text (env text functions after) level here m s m' → Through part Makes text (env text functions before) level here m s m'
-as_before {Makes = Makes} functions {level = level} {here = here} {s = s} {m = m} {m' = m'} k r =
-    record { on = r.on; read = r.read; made = subst (λ (v : Env). Makes v level.held here.out m r.read.tree s.out m') (kept_env functions k) r.made }
+pub as_before : {Tree : Type 0} {part : Part Tree} {Makes : MadeOf Tree} {text : List ℕ} (functions : List Function) {before after : ArrayVec Variable} {level : Level} {here s : Spot} {m m' : List ℕ} → after ≡ before →
+    Through part Makes text (env functions after.items) level here m s m' → Through part Makes text (env functions before.items) level here m s m'
+as_before {part = part} {Makes = Makes} {text = text} functions {level = level} {here = here} {s = s} {m = m} {m' = m'} k r =
+    subst (λ (v : ArrayVec Variable). Through part Makes text (env functions v.items) level here m s m') k r
 
-pub carried : {part : Part Expr} {text : List ℕ} (functions : List Function) {before after : Scope} {level : Level} {here s₀ s : Spot} {m₀ m' : List ℕ} → Kept text before after →
-    Carries part text (env text functions after) level here s₀ m₀ s m' → Carries part text (env text functions before) level here s₀ m₀ s m'
-carried {part = part} {text = text} functions {level = level} {here = here} {s₀ = s₀} {s = s} {m₀ = m₀} {m' = m'} k j = subst (λ (v : Env). Carries part text v level here s₀ m₀ s m') (kept_env functions k) j
+pub carried : {part : Part Expr} {text : List ℕ} (functions : List Function) {before after : ArrayVec Variable} {level : Level} {here s₀ s : Spot} {m₀ m' : List ℕ} → after ≡ before →
+    Carries part text (env functions after.items) level here s₀ m₀ s m' → Carries part text (env functions before.items) level here s₀ m₀ s m'
+carried {part = part} {text = text} functions {level = level} {here = here} {s₀ = s₀} {s = s} {m₀ = m₀} {m' = m'} k j =
+    subst (λ (v : ArrayVec Variable). Carries part text (env functions v.items) level here s₀ m₀ s m') k j
 
-pub carried_all : {text : List ℕ} (functions : List Function) {before after : Scope} {level : Level} {here s₀ s : Spot} {m₀ m' : List ℕ} {n : ℕ} → Kept text before after →
-    CarriesAll text (env text functions after) level here s₀ m₀ s m' n → CarriesAll text (env text functions before) level here s₀ m₀ s m' n
-carried_all {text = text} functions {level = level} {here = here} {s₀ = s₀} {s = s} {m₀ = m₀} {m' = m'} {n = n} k j = subst (λ (v : Env). CarriesAll text v level here s₀ m₀ s m' n) (kept_env functions k) j
+pub carried_all : {text : List ℕ} (functions : List Function) {before after : ArrayVec Variable} {level : Level} {here s₀ s : Spot} {m₀ m' : List ℕ} {n : ℕ} → after ≡ before →
+    CarriesAll text (env functions after.items) level here s₀ m₀ s m' n → CarriesAll text (env functions before.items) level here s₀ m₀ s m' n
+carried_all {text = text} functions {level = level} {here = here} {s₀ = s₀} {s = s} {m₀ = m₀} {m' = m'} {n = n} k j =
+    subst (λ (v : ArrayVec Variable). CarriesAll text (env functions v.items) level here s₀ m₀ s m' n) k j

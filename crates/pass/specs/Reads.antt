@@ -1,5 +1,5 @@
 -- What the reading functions promise.
-use Rattle.std.specs.Prelude.{◌≡◌, ℕ, ◌+◌, ◌*◌, ◌<◌, ◌≤◌, Bool, true, false, ◌⊎◌, List, [], ◌∷◌, ◌++◌, length, take, Some, None, Option, Result, MatchResult, ◌==◌, slice_set}
+use Rattle.std.specs.Prelude.{◌≡◌, ℕ, ◌+◌, ◌*◌, ◌<◌, ◌≤◌, Bool, true, false, ◌⊎◌, List, [], ◌∷◌, ◌++◌, length, Some, None, Option, Result, MatchResult, ◌==◌}
 use Rattle.std.proofs.Math.Option.{none, some}
 use Rattle.std.proofs.Math.Option as opt
 use Rattle.recipe.specs.declared.Op.{Op}
@@ -21,12 +21,11 @@ use Rattle.recipe.specs.declared.cause.Cause.TheVariants.{Grammar, Nesting, Func
 use Rattle.pass.specs.declared.cursor.Level.{Level}
 use Rattle.pass.specs.declared.descent.Given.{Given}
 use Rattle.recipe.specs.Names.{count as argument_count}
-use Rattle.pass.specs.declared.names.Scope.{Scope}
+use Rattle.pass.specs.declared.names.Variable.{Variable}
 use Rattle.pass.specs.declared.cursor.Output.{Output}
-use Rattle.pass.specs.declared.passes.Parameters.{Parameters}
 use Rattle.pass.specs.declared.passes.Declared.{Declared as ADeclared}
 use Rattle.pass.specs.declared.names.Function.{Function}
-use Rattle.pass.specs.Known.{Env, Spelled, ident, force, spelled, signed, entered, Scoped, Declared}
+use Rattle.pass.specs.Known.{Env, ident, in_force, spelled, signed, entered}
 use Rattle.recipe.specs.Image.{slots, past, past_all, words, entries, bodies, placed, BACK}
 use Rattle.recipe.specs.Frames.{recipe_frames}
 use Rattle.pass.specs.declared.passes.Heads.{Heads}
@@ -39,8 +38,8 @@ abbrev pub Fit : List ℕ → Spot → Type 0
 Fit text s = Valid text s.look × (s.count ≤ 2000) × (s.out.at ≤ 2 * s.count + 4100) × Small s.look.kind
 
 -- A frame holds at most its parameters, and a value for each construct.
-abbrev pub Stands : Spot → Level → Scope → Type 0
-Stands s level scope = (level.depth ≤ 32) × (level.held ≤ s.count + 8) × (scope.count ≤ level.depth + 8)
+abbrev pub Stands : Spot → Level → List Variable → Type 0
+Stands s level scope = (level.depth ≤ 32) × (level.held ≤ s.count + 8) × (length scope ≤ level.depth + 8)
 
 abbrev pub AtKind : Spot → Kind → Type 0
 AtKind s k = s.look.kind ≡ k
@@ -95,7 +94,7 @@ Expects text here w r =
 
 abbrev pub Names : List ℕ → Spot → Result Spot Refusal → Type 0
 Names text here r =
-    MatchResult r (λ s. Past text here (AName (ident text here.look)) s × (s.count ≡ here.count) × Spelled text here.look) (λ e. Stops text here e × NoName (ahead text here))
+    MatchResult r (λ s. Past text here (AName (ident text here.look)) s × (s.count ≡ here.count)) (λ e. Stops text here e × NoName (ahead text here))
 
 abbrev pub NoNumber : List Token → Type 0
 NoNumber [] = Unit {0}
@@ -262,22 +261,21 @@ CarriesAll text v level here s₀ m₀ s m' n =
     ((m : List ℕ) → Gives arguments_so_far text v level here m s₀ m₀ 1 → Gives arguments_so_far text v level here m s m' n)
 
 -- A parameter more, after those in force.
-pub record Taken (text : List ℕ) (here : Spot) (scope : Scope) (p : Parameters) : Type 0 where
-  pub few : scope.count < 8
-  pub far : here.look.start < p.next.look.start
-  pub fit : Fit text p.next
-  pub token : ahead text here ≡ AName (ident text here.look) ∷ ahead text p.next
-  pub same : p.next.count ≡ here.count
-  pub out : p.next.out ≡ faulted here.out (again (spelled (force text scope)) (ident text here.look))
-  pub counted : p.scope.count ≡ scope.count + 1
-  pub known : force text p.scope ≡ record { name = (ident text here.look).name; to = scope.count } ∷ force text scope
-  pub scoped : Scoped text p.scope
+pub record Taken (text : List ℕ) (here : Spot) (scope : List Variable) (s : Spot) (scope' : List Variable) : Type 0 where
+  pub few : length scope < 8
+  pub far : here.look.start < s.look.start
+  pub fit : Fit text s
+  pub token : ahead text here ≡ AName (ident text here.look) ∷ ahead text s
+  pub same : s.count ≡ here.count
+  pub out : s.out ≡ faulted here.out (again (spelled (in_force scope)) (ident text here.look))
+  pub counted : length scope' ≡ length scope + 1
+  pub known : in_force scope' ≡ record { name = (ident text here.look).name; to = length scope } ∷ in_force scope
 
-abbrev pub Takes : List ℕ → Spot → Scope → Result Parameters Refusal → Type 0
-Takes text here scope r =
-    MatchResult r (λ p. Taken text here scope p)
+abbrev pub Takes : List ℕ → Spot → List Variable → Result Spot Refusal → List Variable → Type 0
+Takes text here scope r scope' =
+    MatchResult r (λ s. Taken text here scope s scope')
     (λ e. (Stops text here e × NoName (ahead text here))
-    ⊎ ((8 ≤ scope.count) × (e.cause ≡ TooManyParameters) × (e.place ≡ here.look.start) × ((us : List Token) × (ahead text here ≡ AName (ident text here.look) ∷ us))))
+    ⊎ ((8 ≤ length scope) × (e.cause ≡ TooManyParameters) × (e.place ≡ here.look.start) × ((us : List Token) × (ahead text here ≡ AName (ident text here.look) ∷ us))))
 
 abbrev pub IsName : Bool → Kind → Type 0
 IsName true k = k ≡ Name
@@ -312,25 +310,24 @@ pub record DeclarationsSoFar (len : ℕ) (ts : List Token) (s m : ℕ) (us : Lis
   pub goes : reading len start 0 ts ≡ reading len (after_declarations declared) m us
 
 -- The parameters so far, with their slots.
-pub record ParametersMade (text : List ℕ) (o : Output) (xs : Several Ident) (scope : Scope) (o' : Output) : Type 0 where
-  pub known : force text scope ≡ slots [] 0 (all xs)
+pub record ParametersMade (o : Output) (xs : Several Ident) (scope : List Variable) (o' : Output) : Type 0 where
+  pub known : in_force scope ≡ slots [] 0 (all xs)
   pub out : o' ≡ faulted o (twice [] (all xs))
 
-pub record ParametersSoFar (text : List ℕ) (here : Spot) (p : Parameters) : Type 0 where
-  pub far : here.look.start < p.next.look.start
-  pub fit : Fit text p.next
-  pub same : p.next.count ≡ here.count
-  pub few : p.scope.count ≤ 8
-  pub scoped : Scoped text p.scope
-  pub read : NamesSoFar (length text) here.count (ahead text here) p.scope.count p.next.count (ahead text p.next)
-  pub made : ParametersMade text here.out read.names p.scope p.next.out
+pub record ParametersSoFar (text : List ℕ) (here s : Spot) (scope : List Variable) : Type 0 where
+  pub far : here.look.start < s.look.start
+  pub fit : Fit text s
+  pub same : s.count ≡ here.count
+  pub few : length scope ≤ 8
+  pub read : NamesSoFar (length text) here.count (ahead text here) (length scope) s.count (ahead text s)
+  pub made : ParametersMade here.out read.names scope s.out
 
 pub record Headed (text : List ℕ) (functions : List Function) (here : Spot) (m : List ℕ) (d : ADeclared) (m' : List ℕ) : Type 0 where
   pub far : here.look.start < d.next.look.start
   pub slow : d.next.out.at + 2 * here.count ≤ here.out.at + 2 * d.next.count + 2
   pub fit : Fit text d.next
   pub read : ReadHead (length text) here.count (ahead text here) d.next.count (ahead text d.next)
-  pub made : MadeHead (signed text functions) (entered text functions) here.out m read.names read.tree d.next.out m'
+  pub made : MadeHead (signed functions) (entered functions) here.out m read.names read.tree d.next.out m'
   pub counted : d.arity ≡ length (all read.names)
 
 abbrev pub GoesHead : List ℕ → List Function → Spot → List ℕ → Result ADeclared Refusal → List ℕ → Type 0
@@ -345,60 +342,56 @@ Unlimited text here before e =
 
 abbrev pub Limited : List ℕ → Spot → ℕ → Result Spot Refusal → Type 0
 Limited text here before r =
-    MatchResult r (λ s. (before < 32) × Past text here (AName (ident text here.look)) s × (s.count ≡ here.count) × Spelled text here.look) (λ e. Unlimited text here before e)
+    MatchResult r (λ s. (before < 32) × Past text here (AName (ident text here.look)) s × (s.count ≡ here.count)) (λ e. Unlimited text here before e)
 
 -- The declarations so far, whose words begin at `base`: the functions found, and what was read and made.
-pub record Tabled (text : List ℕ) (base : ℕ) (ds : List Declaration) (h : Heads) : Type 0 where
+pub record Tabled (base : ℕ) (ds : List Declaration) (h : Heads) : Type 0 where
   pub framed : h.over ≡ over_all None ds
-  pub signs : signed text (take h.count h.table) ≡ signatures ds
-  pub enters : entered text (take h.count h.table) ≡ entries base ds
+  pub signs : signed h.functions.items ≡ signatures ds
+  pub enters : entered h.functions.items ≡ entries base ds
 
 pub record DeclarationsMade (text : List ℕ) (functions : List Function) (base : ℕ) (m : List ℕ) (h : Heads) (m' : List ℕ) : Type 0 where
-  pub read : DeclarationsSoFar (length text) (tokens text) h.count h.next.count (ahead text h.next)
-  pub made : MadeHeads (signed text functions) (entered text functions) base m (all read.declared) h.next.out m'
-  pub found : Tabled text base (all read.declared) h
+  pub read : DeclarationsSoFar (length text) (tokens text) (length h.functions.items) h.next.count (ahead text h.next)
+  pub made : MadeHeads (signed functions) (entered functions) base m (all read.declared) h.next.out m'
+  pub found : Tabled base (all read.declared) h
 
 pub record DeclarationsOn (text : List ℕ) (h : Heads) : Type 0 where
-  pub few : h.count ≤ 32
+  pub few : length h.functions.items ≤ 32
   pub fit : Fit text h.next
-  pub slow : h.next.out.at ≤ 4036 + 2 * h.next.count + 2 * h.count
-  pub sized : length h.table ≡ 32
-  pub named : Declared text (take h.count h.table)
+  pub slow : h.next.out.at ≤ 4036 + 2 * h.next.count + 2 * length h.functions.items
 
--- One function more, whose name is ahead.
-abbrev pub function_at : Spot → ℕ → Function
-function_at s arity = record { start = s.look.start; end = s.look.end; arity = arity; target = s.out.at + 1 }
-
-abbrev pub added : Heads → ADeclared → Heads
-added h d = record {
-  next = d.next;
-  over = over_with h.over d.next.out.peak h.next.look.start;
-  table = slice_set h.table h.count (function_at h.next d.arity);
-  count = h.count + 1;
-}
-
--- Past that name, which may be one of those before it, with an empty frame.
+-- Past the name of a function, which may be one of those before it, with an empty frame.
 pub record PastName (text : List ℕ) (h : Heads) (s : Spot) : Type 0 where
-  pub few : h.count < 32
+  pub few : length h.functions.items < 32
   pub token : ahead text h.next ≡ AName (ident text h.next.look) ∷ ahead text s
   pub same : s.count ≡ h.next.count
   pub index : s.out.at ≡ h.next.out.at
   pub peak : s.out.peak ≡ 0
-  pub fault : s.out.fault ≡ earliest h.next.out.fault (again (spelled (entered text (take h.count h.table))) (ident text h.next.look))
+  pub fault : s.out.fault ≡ earliest h.next.out.fault (again (spelled (entered h.functions.items)) (ident text h.next.look))
+
+-- One function more, whose name was ahead.
+pub record With (text : List ℕ) (h : Heads) (d : ADeclared) (h' : Heads) : Type 0 where
+  pub next : h'.next ≡ d.next
+  pub over : h'.over ≡ over_with h.over d.next.out.peak h.next.look.start
+  pub function : Function
+  pub listed : h'.functions.items ≡ h.functions.items ++ (function ∷ [])
+  pub named : function.name.now ≡ (ident text h.next.look).name
+  pub takes : function.arity ≡ d.arity
+  pub begins : function.target ≡ h.next.out.at + 1
 
 pub record Added (text : List ℕ) (functions : List Function) (h : Heads) (m : List ℕ) (h' : Heads) (m' : List ℕ) : Type 0 where
   pub inside : Spot
   pub declared : ADeclared
   pub named : PastName text h inside
   pub headed : Headed text functions inside m declared m'
-  pub is : h' ≡ added h declared
+  pub more : With text h declared h'
   pub on : DeclarationsOn text h'
   pub far : h.next.look.start < h'.next.look.start
 
-abbrev pub GoesDeclaration : List ℕ → List Function → Heads → List ℕ → Result Heads Refusal → List ℕ → Type 0
-GoesDeclaration text functions h m r m' =
-    MatchResult r (λ h'. Added text functions h m h' m')
-    (λ e. Unlimited text h.next h.count e
+abbrev pub GoesDeclaration : List ℕ → List Function → Heads → List ℕ → Result Unit Refusal → Heads → List ℕ → Type 0
+GoesDeclaration text functions h m r h' m' =
+    MatchResult r (λ _. Added text functions h m h' m')
+    (λ e. Unlimited text h.next (length h.functions.items) e
     ⊎ ((s : Spot) × PastName text h s × BadHead (length text) s.count (ahead text s) (cause_number e.cause) e.place))
 
 abbrev pub CarriesDeclarations : List ℕ → List Function → ℕ → Heads → List ℕ → Heads → List ℕ → Type 0
@@ -412,15 +405,12 @@ GoesDeclarations text functions base m r m' =
     (λ e. reading (length text) start 0 (tokens text) ≡ wrong (cause_number e.cause) e.place)
 
 -- What the declarations come to, up to the recipe's own `in`, and the main expression after it.
-abbrev pub pass_of : Heads → Output → Pass
-pass_of h main = record {
-  past_functions = h.next.out.at;
-  past_main = main.at;
-  fault = main.fault;
-  over = over_with h.over main.peak h.next.look.start;
-  table = h.table;
-  count = h.count;
-}
+pub record IsPass (h : Heads) (main : Output) (p : Pass) : Type 0 where
+  pub functions_end : p.past_functions ≡ h.next.out.at
+  pub main_end : p.past_main.index ≡ main.at
+  pub fault : p.fault ≡ main.fault
+  pub over : p.over ≡ over_with h.over main.peak h.next.look.start
+  pub functions : p.functions ≡ h.functions
 
 -- A frame that is too large, at its place.
 abbrev pub frame_verdict : Option ℕ → Verdict Unit
@@ -434,29 +424,15 @@ pub record Passed (text : List ℕ) (functions : List Function) (base : ℕ) (m 
   pub main : Expr
   pub reads : reading (length text) start 0 (tokens text) ≡ fine (recipe declared at_in main)
   pub functions_end : p.past_functions ≡ past_all base (all declared)
-  pub main_end : p.past_main ≡ past 1 main + 1
-  pub faulty : p.fault ≡ earliest None (twice [] (declared_names (all declared)) ++ (body_faults (signed text functions) (all declared) ++ faults (signed text functions) [] main))
+  pub main_end : p.past_main.index ≡ past 1 main + 1
+  pub faulty : p.fault ≡ earliest None (twice [] (declared_names (all declared)) ++ (body_faults (signed functions) (all declared) ++ faults (signed functions) [] main))
   pub framed : frame_verdict p.over ≡ recipe_frames (recipe declared at_in main)
-  pub few : p.count ≤ 32
-  pub sized : length p.table ≡ 32
-  pub named : Declared text (take p.count p.table)
-  pub signs : signed text (take p.count p.table) ≡ signatures (all declared)
-  pub enters : entered text (take p.count p.table) ≡ entries base (all declared)
-  pub written : m' ≡ placed (placed m base (bodies (entered text functions) base (all declared))) 1 (words (entered text functions) [] 0 1 main ++ (BACK ∷ []))
+  pub few : length p.functions.items ≤ 32
+  pub signs : signed p.functions.items ≡ signatures (all declared)
+  pub enters : entered p.functions.items ≡ entries base (all declared)
+  pub written : m' ≡ placed (placed m base (bodies (entered functions) base (all declared))) 1 (words (entered functions) [] 0 1 main ++ (BACK ∷ []))
 
+-- A pass over a text, with functions that are known.
 abbrev pub GoesRecipe : List ℕ → List Function → ℕ → List ℕ → Result Pass Refusal → List ℕ → Type 0
 GoesRecipe text functions base m r m' =
     MatchResult r (λ p. Passed text functions base m p m') (λ e. reading (length text) start 0 (tokens text) ≡ wrong (cause_number e.cause) e.place)
-
--- What a pass may be given: functions whose names lie in the text, and a place for their words that leaves room.
-abbrev pub Allowed : List ℕ → List Function → ℕ → Type 0
-Allowed text functions base = (base ≤ 4036) × Declared text functions
-
-abbrev pub AreDeclared : Bool → List ℕ → List Function → Type 0
-AreDeclared true text functions = Declared text functions
-AreDeclared false text functions = Declared text functions → ⊥
-
--- A pass; or none, and nothing is written, where it may not be given these.
-abbrev pub GoesOver : List ℕ → List Function → ℕ → List ℕ → Option (Result Pass Refusal) → List ℕ → Type 0
-GoesOver text functions base m None m' = (Allowed text functions base → ⊥) × (m' ≡ m)
-GoesOver text functions base m (Some r) m' = GoesRecipe text functions base m r m'

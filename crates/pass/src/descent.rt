@@ -1,6 +1,6 @@
 // Expressions by recursive descent: one descent reads, judges the limits and says what the words come to.
-ghost use Rattle.std.specs.Prelude.{◌<◌};
-ghost use Rattle.pass.specs.Known.{env, Known, Kept};
+ghost use Rattle.std.specs.Prelude.{◌≡◌, ◌<◌};
+ghost use Rattle.pass.specs.Known.{env};
 ghost use Rattle.pass.specs.Reads.{Fit, Stands, Goes, an_expr, from_expr, a_sum, from_sum, a_product, from_product, an_atom, from_atom, GoesCall, AtKind};
 ghost use Rattle.lexer.specs.declared.Kind.TheVariants.{Name as NameKind, Word as WordKind};
 ghost use Rattle.recipe.specs.declared.Word.TheVariants.{Let as LetWord, Ifp as IfpWord, Open as OpenWord, Weigh as WeighWord};
@@ -8,7 +8,7 @@ ghost use Rattle.recipe.specs.declared.Word.TheVariants.{Let as LetWord, Ifp as 
 use crate::cursor::{
     Level, Spot, additive, construct, enter, expect, is, multiplicative, name, open, step,
 };
-use crate::names::{Function, Scope, Variable, Within, call, channel, declare, load};
+use crate::names::{Function, Scope, Variable, Within, call, channel, load, spelling};
 use crate::output::{emit, operator, push, put, skip, word};
 use lexer::Kind;
 use recipe::{Cause, Refusal, Word};
@@ -21,17 +21,17 @@ pub(crate) struct Given {
 }
 
 #[cycle(arguments_atom_binding_bracketed_choice_expression_named_product_sum)]
-pub(crate) fn expression(
-    text: &[u8],
-    functions: &[Function],
+pub(crate) fn expression<'t>(
+    text: &'t [u8],
+    functions: &[Function<'t>],
     here: &Spot,
     level: Level,
-    scope: &mut Scope,
+    scope: &mut Scope<'t>,
     image: &mut [u32],
 ) -> Result<Spot, Refusal>
-    requires { (Fit text.now here.now) × ((Stands here.now level scope.old) × (Known text.now functions.now scope.old)) }
-    ensures goes { Goes an_expr from_expr text.now (env text.now functions.now scope.old) here.now level image.old result image.new }
-    ensures kept { Kept text.now scope.old scope.new }
+    requires { (Fit text.now here.now) × (Stands here.now level scope.old.items) }
+    ensures goes { Goes an_expr from_expr text.now (env functions.now scope.old.items) here.now level image.old result image.new }
+    ensures kept { scope.new ≡ scope.old }
 {
     if is(here.look.kind, Word::Let) {
         binding(text, functions, here, level, scope, image)
@@ -44,17 +44,17 @@ pub(crate) fn expression(
 
 // A let expression: the value of its first part stays on the frame under its second.
 #[cycle(arguments_atom_binding_bracketed_choice_expression_named_product_sum)]
-pub(crate) fn binding(
-    text: &[u8],
-    functions: &[Function],
+pub(crate) fn binding<'t>(
+    text: &'t [u8],
+    functions: &[Function<'t>],
     here: &Spot,
     level: Level,
-    scope: &mut Scope,
+    scope: &mut Scope<'t>,
     image: &mut [u32],
 ) -> Result<Spot, Refusal>
-    requires { (Fit text.now here.now) × ((Stands here.now level scope.old) × ((Known text.now functions.now scope.old) × (AtKind here.now (WordKind LetWord)))) }
-    ensures goes { Goes an_expr from_expr text.now (env text.now functions.now scope.old) here.now level image.old result image.new }
-    ensures kept { Kept text.now scope.old scope.new }
+    requires { (Fit text.now here.now) × ((Stands here.now level scope.old.items) × (AtKind here.now (WordKind LetWord))) }
+    ensures goes { Goes an_expr from_expr text.now (env functions.now scope.old.items) here.now level image.old result image.new }
+    ensures kept { scope.new ≡ scope.old }
 {
     let named = enter(text, *here, level.depth)?;
     let equals = name(text, named)?;
@@ -65,14 +65,12 @@ pub(crate) fn binding(
     };
     let within = expression(text, functions, &value, deeper, scope, image)?;
     let body = expect(text, within, Word::In)?;
-    let old = scope.count;
+    let old = scope.len();
     let inner = Within { scope, old };
-    let variable = Variable {
-        start: named.look.start,
-        end: named.look.end,
+    inner.scope.push(Variable {
+        name: spelling(text, named.look),
         slot: level.held as u16,
-    };
-    declare(inner.scope, variable);
+    });
     let deeper = Level {
         held: level.held + 1,
         ..deeper
@@ -86,17 +84,17 @@ pub(crate) fn binding(
 
 // A choice by a test: a word after the test leads past the first part, and one after that past the second, once they are known.
 #[cycle(arguments_atom_binding_bracketed_choice_expression_named_product_sum)]
-pub(crate) fn choice(
-    text: &[u8],
-    functions: &[Function],
+pub(crate) fn choice<'t>(
+    text: &'t [u8],
+    functions: &[Function<'t>],
     here: &Spot,
     level: Level,
-    scope: &mut Scope,
+    scope: &mut Scope<'t>,
     image: &mut [u32],
 ) -> Result<Spot, Refusal>
-    requires { (Fit text.now here.now) × ((Stands here.now level scope.old) × ((Known text.now functions.now scope.old) × (AtKind here.now (WordKind IfpWord)))) }
-    ensures goes { Goes an_expr from_expr text.now (env text.now functions.now scope.old) here.now level image.old result image.new }
-    ensures kept { Kept text.now scope.old scope.new }
+    requires { (Fit text.now here.now) × ((Stands here.now level scope.old.items) × (AtKind here.now (WordKind IfpWord))) }
+    ensures goes { Goes an_expr from_expr text.now (env functions.now scope.old.items) here.now level image.old result image.new }
+    ensures kept { scope.new ≡ scope.old }
 {
     let test = enter(text, *here, level.depth)?;
     let deeper = Level {
@@ -124,17 +122,17 @@ pub(crate) fn choice(
 }
 
 #[cycle(arguments_atom_binding_bracketed_choice_expression_named_product_sum)]
-pub(crate) fn sum(
-    text: &[u8],
-    functions: &[Function],
+pub(crate) fn sum<'t>(
+    text: &'t [u8],
+    functions: &[Function<'t>],
     here: &Spot,
     level: Level,
-    scope: &mut Scope,
+    scope: &mut Scope<'t>,
     image: &mut [u32],
 ) -> Result<Spot, Refusal>
-    requires { (Fit text.now here.now) × ((Stands here.now level scope.old) × (Known text.now functions.now scope.old)) }
-    ensures goes { Goes a_sum from_sum text.now (env text.now functions.now scope.old) here.now level image.old result image.new }
-    ensures kept { Kept text.now scope.old scope.new }
+    requires { (Fit text.now here.now) × (Stands here.now level scope.old.items) }
+    ensures goes { Goes a_sum from_sum text.now (env functions.now scope.old.items) here.now level image.old result image.new }
+    ensures kept { scope.new ≡ scope.old }
 {
     let mut so_far = product(text, functions, here, level, scope, image)?;
     while additive(so_far.look.kind) {
@@ -160,17 +158,17 @@ pub(crate) fn sum(
 }
 
 #[cycle(arguments_atom_binding_bracketed_choice_expression_named_product_sum)]
-pub(crate) fn product(
-    text: &[u8],
-    functions: &[Function],
+pub(crate) fn product<'t>(
+    text: &'t [u8],
+    functions: &[Function<'t>],
     here: &Spot,
     level: Level,
-    scope: &mut Scope,
+    scope: &mut Scope<'t>,
     image: &mut [u32],
 ) -> Result<Spot, Refusal>
-    requires { (Fit text.now here.now) × ((Stands here.now level scope.old) × (Known text.now functions.now scope.old)) }
-    ensures goes { Goes a_product from_product text.now (env text.now functions.now scope.old) here.now level image.old result image.new }
-    ensures kept { Kept text.now scope.old scope.new }
+    requires { (Fit text.now here.now) × (Stands here.now level scope.old.items) }
+    ensures goes { Goes a_product from_product text.now (env functions.now scope.old.items) here.now level image.old result image.new }
+    ensures kept { scope.new ≡ scope.old }
 {
     let mut so_far = atom(text, functions, here, level, scope, image)?;
     while multiplicative(so_far.look.kind) {
@@ -196,17 +194,17 @@ pub(crate) fn product(
 }
 
 #[cycle(arguments_atom_binding_bracketed_choice_expression_named_product_sum)]
-pub(crate) fn atom(
-    text: &[u8],
-    functions: &[Function],
+pub(crate) fn atom<'t>(
+    text: &'t [u8],
+    functions: &[Function<'t>],
     here: &Spot,
     level: Level,
-    scope: &mut Scope,
+    scope: &mut Scope<'t>,
     image: &mut [u32],
 ) -> Result<Spot, Refusal>
-    requires { (Fit text.now here.now) × ((Stands here.now level scope.old) × (Known text.now functions.now scope.old)) }
-    ensures goes { Goes an_atom from_atom text.now (env text.now functions.now scope.old) here.now level image.old result image.new }
-    ensures kept { Kept text.now scope.old scope.new }
+    requires { (Fit text.now here.now) × (Stands here.now level scope.old.items) }
+    ensures goes { Goes an_atom from_atom text.now (env functions.now scope.old.items) here.now level image.old result image.new }
+    ensures kept { scope.new ≡ scope.old }
 {
     if is(here.look.kind, Word::Weigh) {
         weighing(text, functions, here, level, scope, image)
@@ -230,16 +228,16 @@ pub(crate) fn atom(
     }
 }
 
-pub(crate) fn weighing(
-    text: &[u8],
-    functions: &[Function],
+pub(crate) fn weighing<'t>(
+    text: &'t [u8],
+    functions: &[Function<'t>],
     here: &Spot,
     level: Level,
-    scope: &Scope,
+    scope: &Scope<'t>,
     image: &mut [u32],
 ) -> Result<Spot, Refusal>
-    requires { (Fit text.now here.now) × ((Stands here.now level scope.now) × ((Known text.now functions.now scope.now) × (AtKind here.now (WordKind WeighWord)))) }
-    ensures { Goes an_atom from_atom text.now (env text.now functions.now scope.now) here.now level image.old result image.new }
+    requires { (Fit text.now here.now) × ((Stands here.now level scope.now.items) × (AtKind here.now (WordKind WeighWord))) }
+    ensures { Goes an_atom from_atom text.now (env functions.now scope.now.items) here.now level image.old result image.new }
 {
     let after = construct(text, *here)?;
     match after.look.kind {
@@ -259,17 +257,17 @@ pub(crate) fn weighing(
 }
 
 #[cycle(arguments_atom_binding_bracketed_choice_expression_named_product_sum)]
-pub(crate) fn bracketed(
-    text: &[u8],
-    functions: &[Function],
+pub(crate) fn bracketed<'t>(
+    text: &'t [u8],
+    functions: &[Function<'t>],
     here: &Spot,
     level: Level,
-    scope: &mut Scope,
+    scope: &mut Scope<'t>,
     image: &mut [u32],
 ) -> Result<Spot, Refusal>
-    requires { (Fit text.now here.now) × ((Stands here.now level scope.old) × ((Known text.now functions.now scope.old) × (AtKind here.now (WordKind OpenWord)))) }
-    ensures goes { Goes an_atom from_atom text.now (env text.now functions.now scope.old) here.now level image.old result image.new }
-    ensures kept { Kept text.now scope.old scope.new }
+    requires { (Fit text.now here.now) × ((Stands here.now level scope.old.items) × (AtKind here.now (WordKind OpenWord))) }
+    ensures goes { Goes an_atom from_atom text.now (env functions.now scope.old.items) here.now level image.old result image.new }
+    ensures kept { scope.new ≡ scope.old }
 {
     let inner = open(text, *here, level.depth)?;
     let within = expression(
@@ -288,50 +286,45 @@ pub(crate) fn bracketed(
 
 // A variable or a call.
 #[cycle(arguments_atom_binding_bracketed_choice_expression_named_product_sum)]
-pub(crate) fn named(
-    text: &[u8],
-    functions: &[Function],
+pub(crate) fn named<'t>(
+    text: &'t [u8],
+    functions: &[Function<'t>],
     here: &Spot,
     level: Level,
-    scope: &mut Scope,
+    scope: &mut Scope<'t>,
     image: &mut [u32],
 ) -> Result<Spot, Refusal>
-    requires { (Fit text.now here.now) × ((Stands here.now level scope.old) × ((Known text.now functions.now scope.old) × (AtKind here.now NameKind))) }
-    ensures goes { Goes an_atom from_atom text.now (env text.now functions.now scope.old) here.now level image.old result image.new }
-    ensures kept { Kept text.now scope.old scope.new }
+    requires { (Fit text.now here.now) × ((Stands here.now level scope.old.items) × (AtKind here.now NameKind)) }
+    ensures goes { Goes an_atom from_atom text.now (env functions.now scope.old.items) here.now level image.old result image.new }
+    ensures kept { scope.new ≡ scope.old }
 {
+    let name = spelling(text, here.look);
+    let place = here.look.start;
     let after = construct(text, *here)?;
     if is(after.look.kind, Word::Open) {
         let inner = open(text, after, level.depth)?;
         let given = arguments(text, functions, &inner, level, scope, image)?;
-        let out = call(
-            text,
-            functions,
-            here.look,
-            given.count,
-            given.next.out,
-            image,
-        );
+        let out = call(functions, name, place, given.count, given.next.out, image);
         Ok(Spot { out, ..given.next })
     } else {
-        let out = load(text, scope, here.look, after.out, level.held, image);
+        let out = load(scope, name, place, after.out, level.held, image);
         Ok(Spot { out, ..after })
     }
 }
 
 // A call's arguments, from the token after its bracket on; the call stands in a nesting of `level.depth`.
 #[cycle(arguments_atom_binding_bracketed_choice_expression_named_product_sum)]
-pub(crate) fn arguments(
-    text: &[u8],
-    functions: &[Function],
+pub(crate) fn arguments<'t>(
+    text: &'t [u8],
+    functions: &[Function<'t>],
     here: &Spot,
     level: Level,
-    scope: &mut Scope,
+    scope: &mut Scope<'t>,
     image: &mut [u32],
 ) -> Result<Given, Refusal>
-    requires { (Fit text.now here.now) × ((Stands here.now level scope.old) × ((Known text.now functions.now scope.old) × (level.depth < 32))) }
-    ensures goes { GoesCall text.now (env text.now functions.now scope.old) here.now level image.old result image.new }
-    ensures kept { Kept text.now scope.old scope.new }
+    requires { (Fit text.now here.now) × ((Stands here.now level scope.old.items) × (level.depth < 32)) }
+    ensures goes { GoesCall text.now (env functions.now scope.old.items) here.now level image.old result image.new }
+    ensures kept { scope.new ≡ scope.old }
 {
     let deeper = Level {
         depth: level.depth + 1,

@@ -1,11 +1,13 @@
 // A pass over a recipe text: reading, limits, names, frames and words in one descent.
 #![tactic(auto)]
 
+mod base;
 mod cursor;
 mod descent;
 mod names;
 mod output;
 mod passes;
 
+pub use base::Base;
 pub use names::Function;
 pub use passes::{Pass, over};

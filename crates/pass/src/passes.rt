@@ -1,24 +1,16 @@
 // A pass over a whole recipe: its declarations, and its main expression.
-ghost use Rattle.std.specs.Prelude.{◌≡◌, ◌+◌, ◌*◌, ◌<◌, ◌≤◌, not, length, take, None};
-ghost use Rattle.std.specs.List.{between};
-ghost use Rattle.recipe.specs.Names.{among};
-ghost use Rattle.pass.specs.Known.{Spelled, Scoped, Declared as AllDeclared, entered, spelled};
+ghost use Rattle.std.specs.Prelude.{◌≡◌, ◌+◌, ◌*◌, ◌≤◌, length};
 ghost use Rattle.pass.specs.Outputs.{over_with};
-ghost use Rattle.pass.specs.Reads.{Fit, Takes, GoesHead, IsName, Limited, added, DeclarationsOn, GoesDeclaration, GoesDeclarations, pass_of, GoesRecipe, AreDeclared, GoesOver};
+ghost use Rattle.pass.specs.Reads.{Fit, Takes, GoesHead, IsName, Limited, DeclarationsOn, GoesDeclaration, GoesDeclarations, IsPass, GoesRecipe};
 
+use crate::base::Base;
 use crate::cursor::{Level, Output, Spot, expect, is, name};
 use crate::descent::expression;
-use crate::names::{Function, Scope, Variable, function_of, slot_of, with};
+use crate::names::{Function, Scope, Variable, function_of, slot_of, spelling};
 use crate::output::{emit, unless, word};
-use lexer::{Kind, Lexeme, next_token};
+use arrayvec::ArrayVec;
+use lexer::{Kind, next_token};
 use recipe::{Cause, Refusal, Word};
-
-// The parameters of a function so far.
-#[derive(Clone, Copy)]
-pub(crate) struct Parameters {
-    pub(crate) next: Spot,
-    pub(crate) scope: Scope,
-}
 
 // What stands after a declaration, and how many parameters it has.
 #[derive(Clone, Copy)]
@@ -28,60 +20,44 @@ pub(crate) struct Declared {
 }
 
 // The functions so far, and the place of the first whose frame is too large.
-#[derive(Clone, Copy)]
-pub(crate) struct Heads {
+#[derive(Drop)]
+pub(crate) struct Heads<'t> {
     pub(crate) next: Spot,
     pub(crate) over: Option<usize>,
-    pub(crate) table: [Function; 32],
-    pub(crate) count: usize,
+    pub(crate) functions: ArrayVec<Function<'t>, 32>,
 }
 
 // What a pass over a recipe comes to: the indices past the functions' words and past the main expression's, the first fault of the names,
 // the place of the first frame that is too large, and the functions.
-#[derive(Clone, Copy)]
-pub struct Pass {
+#[derive(PartialEq, Eq, Debug, Drop)]
+pub struct Pass<'t> {
     pub past_functions: usize,
-    pub past_main: usize,
+    pub past_main: Base,
     pub fault: Option<Refusal>,
     pub over: Option<usize>,
-    pub table: [Function; 32],
-    pub count: usize,
-}
-
-pub(crate) fn no_names() -> Scope
-    ensures { (result.count ≡ 0) × (length result.names ≡ 40) }
-{
-    Scope {
-        names: [Variable {
-            start: 0,
-            end: 0,
-            slot: 0,
-        }; 40],
-        count: 0,
-    }
+    pub functions: ArrayVec<Function<'t>, 32>,
 }
 
 // Past the name of a parameter, which must not be among those before it.
-pub(crate) fn parameter(text: &[u8], here: Spot, scope: &Scope) -> Result<Parameters, Refusal>
-    requires { (Fit text.now here) × ((Scoped text.now scope.now) × (scope.now.count ≤ 8)) }
-    ensures { Takes text.now here scope.now result }
+pub(crate) fn parameter<'t>(
+    text: &'t [u8],
+    here: Spot,
+    scope: &mut Scope<'t>,
+) -> Result<Spot, Refusal>
+    requires { (Fit text.now here) × (length scope.old.items ≤ 8) }
+    ensures { Takes text.now here scope.old.items result scope.new.items }
 {
     let after = name(text, here)?;
-    if scope.count < 8 {
-        let fresh = slot_of(text, scope, here.look).is_none();
+    let slot = scope.len();
+    if slot < 8 {
+        let name = spelling(text, here.look);
+        let fresh = slot_of(scope, name).is_none();
         let out = unless(fresh, after.out, Cause::DeclaredTwice, here.look.start);
-        let inner = with(
-            scope,
-            Variable {
-                start: here.look.start,
-                end: here.look.end,
-                slot: scope.count as u16,
-            },
-        );
-        Ok(Parameters {
-            next: Spot { out, ..after },
-            scope: inner,
-        })
+        scope.push(Variable {
+            name,
+            slot: slot as u16,
+        });
+        Ok(Spot { out, ..after })
     } else {
         Err(Refusal {
             cause: Cause::Parameters,
@@ -91,26 +67,25 @@ pub(crate) fn parameter(text: &[u8], here: Spot, scope: &Scope) -> Result<Parame
 }
 
 // A declaration, from its bracket on: its words begin with the number of its parameters, and end with the way back.
-pub(crate) fn head(
-    text: &[u8],
-    functions: &[Function],
+pub(crate) fn head<'t>(
+    text: &'t [u8],
+    functions: &[Function<'t>],
     here: &Spot,
     image: &mut [u32],
 ) -> Result<Declared, Refusal>
-    requires { (Fit text.now here.now) × ((here.now.out.at + 2 ≤ 2 * here.now.count + 4100) × (AllDeclared text.now functions.now)) }
+    requires { (Fit text.now here.now) × (here.now.out.at + 2 ≤ 2 * here.now.count + 4100) }
     ensures { GoesHead text.now functions.now here.now image.old result image.new }
 {
     let first = expect(text, *here, Word::Open)?;
-    let empty = no_names();
-    let mut so_far = parameter(text, first, &empty)?;
-    while is(so_far.next.look.kind, Word::Comma) {
-        let next = expect(text, so_far.next, Word::Comma)?;
-        so_far = parameter(text, next, &so_far.scope)?;
+    let mut scope = Scope::new();
+    let mut so_far = parameter(text, first, &mut scope)?;
+    while is(so_far.look.kind, Word::Comma) {
+        let next = expect(text, so_far, Word::Comma)?;
+        so_far = parameter(text, next, &mut scope)?;
     }
-    let close = expect(text, so_far.next, Word::Close)?;
+    let close = expect(text, so_far, Word::Close)?;
     let equals = expect(text, close, Word::Equals)?;
-    let mut scope = so_far.scope;
-    let arity = scope.count;
+    let arity = scope.len();
     let body = Spot {
         out: emit(equals.out, image, word(10, arity as u32)),
         ..equals
@@ -164,65 +139,20 @@ pub(crate) fn first_over(over: Option<usize>, holds: usize, place: usize) -> Opt
     }
 }
 
-// No functions yet.
-pub(crate) fn no_functions(next: Spot) -> Heads
-    ensures { (result.next ≡ next) × (result.over ≡ None) × (length result.table ≡ 32) × (result.count ≡ 0) }
-{
-    Heads {
-        next,
-        over: None,
-        table: [Function {
-            start: 0,
-            end: 0,
-            arity: 0,
-            target: 0,
-        }; 32],
-        count: 0,
-    }
-}
-
-// Whether no function so far has the name.
-pub(crate) fn is_new(text: &[u8], so_far: &Heads, name: Lexeme) -> bool
-    requires { (Spelled text.now name) × (DeclarationsOn text.now so_far.now) }
-    ensures { result ≡ not (among (spelled (entered text.now (take so_far.now.count so_far.now.table))) (between name.start name.end text.now)) }
-{
-    function_of(text, &so_far.table[..so_far.count], name).is_none()
-}
-
-// One function more.
-pub(crate) fn with_function(so_far: &Heads, inside: &Declared) -> Heads
-    requires { (so_far.now.count < 32) × ((length so_far.now.table ≡ 32) × (so_far.now.next.out.at ≤ 8192)) }
-    ensures { result ≡ added so_far.now inside.now }
-{
-    let name = so_far.next.look;
-    let mut table = so_far.table;
-    table[so_far.count] = Function {
-        start: name.start,
-        end: name.end,
-        arity: inside.arity,
-        target: (so_far.next.out.at + 1) as u16,
-    };
-    Heads {
-        next: inside.next,
-        over: first_over(so_far.over, inside.next.out.peak, name.start),
-        table,
-        count: so_far.count + 1,
-    }
-}
-
 // A declaration, after those before it.
-pub(crate) fn declaration(
-    text: &[u8],
-    functions: &[Function],
-    so_far: &Heads,
+pub(crate) fn declaration<'t>(
+    text: &'t [u8],
+    functions: &[Function<'t>],
+    heads: &mut Heads<'t>,
     image: &mut [u32],
-) -> Result<Heads, Refusal>
-    requires { (DeclarationsOn text.now so_far.now) × (AllDeclared text.now functions.now) }
-    ensures { GoesDeclaration text.now functions.now so_far.now image.old result image.new }
+) -> Result<(), Refusal>
+    requires { DeclarationsOn text.now heads.old }
+    ensures { GoesDeclaration text.now functions.now heads.old image.old result heads.new image.new }
 {
-    let here = so_far.next;
-    let after = function_name(text, here, so_far.count)?;
-    let fresh = is_new(text, so_far, here.look);
+    let here = heads.next;
+    let after = function_name(text, here, heads.functions.len())?;
+    let name = spelling(text, here.look);
+    let fresh = function_of(&heads.functions, name).is_none();
     let own = Output {
         peak: 0,
         ..after.out
@@ -232,61 +162,68 @@ pub(crate) fn declaration(
         ..after
     };
     let inside = head(text, functions, &named, image)?;
-    Ok(with_function(so_far, &inside))
+    heads.functions.push(Function {
+        name,
+        arity: inside.arity,
+        target: (here.out.at + 1) as u16,
+    });
+    heads.over = first_over(heads.over, inside.next.out.peak, here.look.start);
+    heads.next = inside.next;
+    Ok(())
 }
 
 // The declarations of a recipe, from its beginning on; their words begin at `base`.
-pub(crate) fn declarations(
-    text: &[u8],
-    functions: &[Function],
-    base: usize,
+pub(crate) fn declarations<'t>(
+    text: &'t [u8],
+    functions: &[Function<'t>],
+    base: Base,
     image: &mut [u32],
-) -> Result<Heads, Refusal>
-    requires { (base ≤ 4036) × (AllDeclared text.now functions.now) }
-    ensures { GoesDeclarations text.now functions.now base image.old result image.new }
+) -> Result<Heads<'t>, Refusal>
+    ensures { GoesDeclarations text.now functions.now base.index image.old result image.new }
 {
     let start = Spot {
         look: next_token(text, 0),
         count: 0,
         out: Output {
-            at: base,
+            at: base.index,
             peak: 0,
             fault: None,
         },
     };
-    let first = expect(text, start, Word::Let)?;
-    let none = no_functions(first);
-    let mut so_far = declaration(text, functions, &none, image)?;
-    while is_name(so_far.next.look.kind) {
-        so_far = declaration(text, functions, &so_far, image)?;
+    let mut heads = Heads {
+        next: expect(text, start, Word::Let)?,
+        over: None,
+        functions: ArrayVec::new(),
+    };
+    declaration(text, functions, &mut heads, image)?;
+    while is_name(heads.next.look.kind) {
+        declaration(text, functions, &mut heads, image)?;
     }
-    Ok(so_far)
+    Ok(heads)
 }
 
 // What the declarations come to, up to the recipe's own `in`, and the main expression after it.
-pub(crate) fn pass_of(heads: &Heads, main: Output) -> Pass
-    ensures { result ≡ pass_of heads.now main }
+pub(crate) fn pass_of(heads: Heads<'_>, main: Output) -> Pass<'_>
+    requires { main.at ≤ 4036 }
+    ensures { IsPass heads.entry main result }
 {
-    let table = heads.table;
     Pass {
         past_functions: heads.next.out.at,
-        past_main: main.at,
+        past_main: Base { index: main.at },
         fault: main.fault,
         over: first_over(heads.over, main.peak, heads.next.look.start),
-        table,
-        count: heads.count,
+        functions: heads.functions,
     }
 }
 
 // One pass over a recipe. The main expression's words begin at 1, after the head, and the functions' at `base`.
-pub(crate) fn run(
-    text: &[u8],
-    functions: &[Function],
-    base: usize,
+pub fn over<'t>(
+    text: &'t [u8],
+    functions: &[Function<'t>],
+    base: Base,
     image: &mut [u32],
-) -> Result<Pass, Refusal>
-    requires { (base ≤ 4036) × (AllDeclared text.now functions.now) }
-    ensures { GoesRecipe text.now functions.now base image.old result image.new }
+) -> Result<Pass<'t>, Refusal>
+    ensures { GoesRecipe text.now functions.now base.index image.old result image.new }
 {
     let heads = declarations(text, functions, base, image)?;
     let within = expect(text, heads.next, Word::In)?;
@@ -298,45 +235,17 @@ pub(crate) fn run(
         },
         ..within
     };
-    let mut empty = no_names();
+    let mut scope = Scope::new();
     let level = Level { depth: 0, held: 0 };
-    let last = expression(text, functions, &main, level, &mut empty, image)?;
+    let last = expression(text, functions, &main, level, &mut scope, image)?;
     match last.look.kind {
         Kind::End => {
             let out = emit(last.out, image, word(7, 0));
-            Ok(pass_of(&heads, out))
+            Ok(pass_of(heads, out))
         }
         _ => Err(Refusal {
             cause: Cause::Grammar,
             place: last.look.start,
         }),
     }
-}
-
-// Whether each function's name lies in the text.
-fn are_declared(text: &[u8], functions: &[Function]) -> bool
-    ensures { AreDeclared result text.now functions.now }
-{
-    for f in functions {
-        if f.start > f.end || f.end > text.len() {
-            return false;
-        }
-    }
-    true
-}
-
-// A pass over a recipe, where the functions' names lie in the text and their words begin at 4,036 at most; None, and nothing
-// is written, elsewhere.
-pub fn over(
-    text: &[u8],
-    functions: &[Function],
-    base: usize,
-    image: &mut [u32],
-) -> Option<Result<Pass, Refusal>>
-    ensures { GoesOver text.now functions.now base image.old result image.new }
-{
-    if base > 4036 || !are_declared(text, functions) {
-        return None;
-    }
-    Some(run(text, functions, base, image))
 }

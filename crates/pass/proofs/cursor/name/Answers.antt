@@ -11,4 +11,4 @@ returns-in-Name c =
     let text = c.args.text.now in
     let h : l.start < l.end = rw c.in-Name.is at c.requires.0.2 in
     let x : Ident = ident text l in
-    (record { far = omega arith; out = refl; fit = (s.1, c.requires.1, c.requires.2, s.3); token = ap (λ k. then_from text k l.start l.end) c.in-Name.is ∙ ap (λ ts. Name x ∷ ts) s.2 }, refl, (c.requires.0.0, c.requires.0.1))
+    (record { far = omega arith; out = refl; fit = (s.1, c.requires.1, c.requires.2, s.3); token = ap (λ k. then_from text k l.start l.end) c.in-Name.is ∙ ap (λ ts. Name x ∷ ts) s.2 }, refl)

@@ -1,5 +1,5 @@
-use Rattle.std.proofs.Common.{◌+◌, ◌-◌, ◌*◌, length}
-use Rattle.pass.specs.Known.{env, Kept}
+use Rattle.std.proofs.Common.{◌≡◌, ◌+◌, ◌-◌, ◌*◌, length}
+use Rattle.pass.specs.Known.{env}
 use Rattle.pass.specs.Reads.{Carries, CarriesAll, product_so_far, sum_so_far}
 use Rattle.pass.proofs.descent.+arguments_atom_binding_bracketed_choice_expression_named_product_sum.Given as goal
 
@@ -31,19 +31,19 @@ abbrev pub decreases-named : goal.decreases-named
 decreases-named l = 6 * (length l.text.now - l.here.now.look.start) + 0
 
 abbrev pub invariant-arguments-loop-level : goal.invariant-arguments-loop-level
-invariant-arguments-loop-level l = CarriesAll l.text (env l.text l.functions l.initial.scope) l.level l.here l.initial.so_far l.initial.image l.so_far l.image l.count × Kept l.text l.initial.scope l.scope
+invariant-arguments-loop-level l = CarriesAll l.text (env l.functions l.initial.scope.items) l.level l.here l.initial.so_far l.initial.image l.so_far l.image l.count × (l.scope ≡ l.initial.scope)
 
 abbrev pub decreases-arguments-loop-level : goal.decreases-arguments-loop-level
 decreases-arguments-loop-level l = length l.text - l.so_far.look.start
 
 abbrev pub invariant-product-loop-level : goal.invariant-product-loop-level
-invariant-product-loop-level l = Carries product_so_far l.text (env l.text l.functions l.initial.scope) l.level l.here l.initial.so_far l.initial.image l.so_far l.image × Kept l.text l.initial.scope l.scope
+invariant-product-loop-level l = Carries product_so_far l.text (env l.functions l.initial.scope.items) l.level l.here l.initial.so_far l.initial.image l.so_far l.image × (l.scope ≡ l.initial.scope)
 
 abbrev pub decreases-product-loop-level : goal.decreases-product-loop-level
 decreases-product-loop-level l = length l.text - l.so_far.look.start
 
 abbrev pub invariant-sum-loop-level : goal.invariant-sum-loop-level
-invariant-sum-loop-level l = Carries sum_so_far l.text (env l.text l.functions l.initial.scope) l.level l.here l.initial.so_far l.initial.image l.so_far l.image × Kept l.text l.initial.scope l.scope
+invariant-sum-loop-level l = Carries sum_so_far l.text (env l.functions l.initial.scope.items) l.level l.here l.initial.so_far l.initial.image l.so_far l.image × (l.scope ≡ l.initial.scope)
 
 abbrev pub decreases-sum-loop-level : goal.decreases-sum-loop-level
 decreases-sum-loop-level l = length l.text - l.so_far.look.start

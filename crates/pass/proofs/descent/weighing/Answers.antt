@@ -14,7 +14,7 @@ returns-in-Number c =
     let a = c.in_ok-after.ensures in
     let m = c.in_ok-after.after.look in
     let s = c.step.ensures in
-    let d = known_token text l.start l.end c.requires.1.1.1 a.0.token in
+    let d = known_token text l.start l.end c.requires.1.1 a.0.token in
     let h : m.start < m.end = rw c.in-Number.is at a.0.fit.0.2 in
     let x : Literal = record { place = m.start; value = c.in-Number.value } in
     let e = ap (λ k. then_from text k m.start m.end) c.in-Number.is ∙ ap (λ (ts : List Token). Number x ∷ ts) s.2 in

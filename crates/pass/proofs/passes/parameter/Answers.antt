@@ -1,28 +1,27 @@
-use Rattle.std.proofs.Common.{◌<◌, length, is_some, sym, ap, ◌∙◌, arith}
+use Rattle.std.proofs.Common.{◌≡◌, ◌∷◌, is_some, sym, ap, ◌∙◌, arith}
+use Rattle.recipe.specs.Image.{Bound}
 use Rattle.pass.specs.declared.cursor.Output.{Output}
-use Rattle.pass.specs.Known.{ident, force, spelled}
+use Rattle.pass.specs.Known.{ident, in_force, spelled, slot_in}
 use Rattle.pass.specs.Outputs.{faulted, again}
 use Rattle.pass.proofs.Makes.{at_of}
-use Rattle.pass.proofs.Lookups.{again_slot, inner_force, inner_scoped}
+use Rattle.pass.proofs.Lookups.{again_slot, in_force_more}
 use Rattle.pass.proofs.passes.parameter.Goals as goal
 
-pub returns-then-scope-lt8 : goal.returns-then-scope-lt8
-returns-then-scope-lt8 c =
-    let text = c.args.text.now in
-    let scope = c.args.scope.now in
-    let l = c.args.here.look in
+pub returns-then-slot-lt8 : goal.returns-then-slot-lt8
+returns-then-slot-lt8 c =
+    let scope = c.args.scope.now.items in
+    let x = ident c.args.text.now c.args.here.look in
     let a = c.in_ok-after.ensures in
-    let room : scope.count < length scope.names = omega (arith, c.requires.1.0.2, c.if-scope-lt8.true) in
-    let w = c.with-inner.ensures in
+    let slot : c.slot_of.result ≡ slot_in (in_force scope) x.name =
+    c.slot_of.ensures ∙ (ap (λ vs. slot_in (in_force vs) c.spelling-name.result.now) c.deref.ensures.0 ∙ ap (slot_in (in_force scope)) c.spelling-name.ensures) in
     record {
-      few = c.if-scope-lt8.true;
+      few = omega (arith, c.if-slot-lt8.true, c.len-slot.ensures.value);
       far = a.0.far;
       fit = (a.0.fit.0, a.0.fit.1, omega (arith, at_of c.unless-out.ensures, a.0.fit.2), a.0.fit.3);
       token = a.0.token;
       same = a.1;
-      out = c.unless-out.ensures ∙ (ap (faulted c.in_ok-after.after.out) (again_slot (force text scope) (ident text l) c.is_none-fresh.result (ap is_some (sym c.slot_of.ensures) ∙ c.is_none-fresh.ensures))
-          ∙ ap (λ (o : Output). faulted o (again (spelled (force text scope)) (ident text l))) a.0.out);
-      counted = w.0;
-      known = inner_force text scope c.with-inner.result _ room w.0 w.1;
-      scoped = inner_scoped text scope c.with-inner.result _ room (omega (arith, c.if-scope-lt8.true)) w.0 w.1 a.2.0 a.2.1 c.requires.1.0;
+      out = c.unless-out.ensures ∙ (ap (faulted c.in_ok-after.after.out) (again_slot (in_force scope) x c.is_none-fresh.result (ap is_some (sym slot) ∙ c.is_none-fresh.ensures))
+          ∙ ap (λ (o : Output). faulted o (again (spelled (in_force scope)) x)) a.0.out);
+      counted = c.push.ensures.len;
+      known = ap in_force c.push.ensures.items ∙ (in_force_more scope _ ∙ ap (λ (b : Bound). b ∷ in_force scope) (cc (c.spelling-name.ensures, c.len-slot.ensures.value)));
     }
