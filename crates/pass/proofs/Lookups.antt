@@ -1,12 +1,14 @@
 -- What a name stands for.
-use Rattle.std.proofs.Common.{◌≡◌, ℕ, zero, suc, ◌+◌, ◌<◌, ◌≤◌, Bool, true, false, cond, not, ◌||◌, List, [], ◌∷◌, length, get_or, drop, set, is_some, Some, None, Option, sym, refl, ap, ◌∙◌, inl, inr, add-one, arith, length-set, drop-cons, get_or-set_other, get_or-set_same}
+use Rattle.std.proofs.Common.{◌≡◌, ℕ, zero, suc, ◌+◌, ◌<◌, ◌≤◌, Bool, true, false, cond, ◌||◌, List, [], ◌∷◌, length, get_or, drop, set, is_some, Some, None, Option, sym, refl, ap, ◌∙◌, inl, inr, add-one, arith, length-set, drop-cons, get_or-set_other, get_or-set_same}
 use mathlib.Core.Option as opt
 use Rattle.std.proofs.lemmas.List.{drop_all}
 use Rattle.std.proofs.lemmas.Bool.Decides.{leb_tells, eqb_tells}
 use Rattle.std.specs.List.{between}
 use Rattle.std.specs.Str.{bytes_eq}
 use Rattle.recipe.specs.Tokens.{Ident}
-use Rattle.recipe.specs.Names.{among, arity_of, fault_unless}
+use Rattle.std.specs.Bool.{then_some}
+use Rattle.std.specs.Option.{option_to_list}
+use Rattle.recipe.specs.Names.{among, arity_of}
 use Rattle.pass.specs.Outputs.{again}
 use Rattle.recipe.specs.Image.{Bound, find}
 use Rattle.recipe.specs.declared.cause.Cause.TheVariants.{DeclaredTwice}
@@ -112,7 +114,7 @@ inner_scoped text scope inner v h l c n a b s = (
   ap length n ∙ (length-set scope.names scope.count v ∙ s.2),
 )
 
-pub again_slot : (bs : List Bound) (x : Ident) (r : Bool) → is_some (slot_in bs x.name) ≡ not r → fault_unless r x.place DeclaredTwice ≡ again (spelled bs) x
+pub again_slot : (bs : List Bound) (x : Ident) (t : Bool) → is_some (slot_in bs x.name) ≡ t → option_to_list (then_some t (record { cause = DeclaredTwice; place = x.place })) ≡ again (spelled bs) x
 again_slot bs x true e = ap (λ t. cond t (record { place = x.place; cause = DeclaredTwice } ∷ []) []) (sym (among_slot bs x.name ∙ e))
 again_slot bs x false e = ap (λ t. cond t (record { place = x.place; cause = DeclaredTwice } ∷ []) []) (sym (among_slot bs x.name ∙ e))
 

@@ -12,7 +12,7 @@ use Rattle.recipe.specs.Grammar.{Expr, Several, Declaration, declare}
 use Rattle.recipe.specs.Names.{all, among, earliest, fault_unless, signatures}
 use Rattle.recipe.specs.Frames.{need, frames}
 use Rattle.recipe.specs.Image.{past, past_all, entries}
-use Rattle.pass.specs.declared.cursor.Output.{Output}
+use Rattle.pass.specs.declared.output.Output.{Output}
 use Rattle.pass.specs.declared.cursor.Spot.{Spot}
 use Rattle.pass.specs.declared.names.Function.{Function}
 use Rattle.pass.specs.declared.passes.Declared.{Declared as ADeclared}

@@ -1,8 +1,10 @@
 // A pass over a recipe text: reading, limits, names, frames and words in one descent.
 #![tactic(auto)]
 
+mod chain;
 mod cursor;
 mod descent;
+mod instruction;
 mod names;
 mod output;
 mod passes;

@@ -8,10 +8,10 @@ ghost use Rattle.recipe.specs.Image.{VAR, WEIGH, CALL, find};
 ghost use Rattle.pass.specs.Known.{force, entered, Spelled, Scoped, Declared as AllDeclared, in_force, spelled, slot_in, first_of, signed};
 ghost use Rattle.pass.specs.Outputs.{emitted, pushed, faulted};
 
-use crate::cursor::Output;
-use crate::output::{emit, push, unless, word};
+use crate::instruction::Instruction;
+use crate::output::Output;
 use lexer::Lexeme;
-use recipe::Cause;
+use recipe::{Cause, Refusal};
 
 // A function: its name's bytes in the text, how many parameters it has, and the index of its first word.
 #[derive(Clone, Copy)]
@@ -130,13 +130,13 @@ pub(crate) fn load(
     ensures written { image.new ≡ slice_set image.old out.at (VAR (find (force text.now scope.now) (between name.start name.end text.now))) }
 {
     match slot_of(text, scope, name) {
-        Some(slot) => push(out, held, image, word(1, slot as u32)),
-        None => push(
-            unless(false, out, Cause::UnknownName, name.start),
-            held,
-            image,
-            word(1, 0),
-        ),
+        Some(slot) => out.push(held, image, Instruction::Variable(slot)),
+        None => out
+            .note(Some(Refusal {
+                cause: Cause::UnknownName,
+                place: name.start,
+            }))
+            .push(held, image, Instruction::Variable(0)),
     }
 }
 
@@ -152,12 +152,15 @@ pub(crate) fn channel(
     ensures made { result ≡ pushed held (faulted out (fault_unless (nat_le 1 value && nat_le value 64) place Channel)) }
     ensures written { image.new ≡ slice_set image.old out.at (WEIGH value) }
 {
-    push(
-        unless(1 <= value && value <= 64, out, Cause::Channel, place),
-        held,
-        image,
-        word(8, value),
-    )
+    let fault = if 1 <= value && value <= 64 {
+        None
+    } else {
+        Some(Refusal {
+            cause: Cause::Channel,
+            place,
+        })
+    };
+    out.note(fault).push(held, image, Instruction::Weigh(value))
 }
 
 // The word of a call of a function, which has to take as many arguments.
@@ -173,17 +176,21 @@ pub(crate) fn call(
     ensures made { result ≡ emitted (faulted out (call_faults (arity_of (signed text.now functions.now) (between name.start name.end text.now)) given name.start)) }
     ensures written { image.new ≡ slice_set image.old out.at (CALL given (find (entered text.now functions.now) (between name.start name.end text.now))) }
 {
-    let arity = given as u32 * 65536;
+    let place = name.start;
     match function_of(text, functions, name) {
-        Some(f) => emit(
-            unless(f.arity == given, out, Cause::ArgumentCount, name.start),
-            image,
-            word(6, arity + f.target as u32),
-        ),
-        None => emit(
-            unless(false, out, Cause::UnknownName, name.start),
-            image,
-            word(6, arity),
-        ),
+        Some(f) => {
+            let fault = (f.arity != given).then_some(Refusal {
+                cause: Cause::ArgumentCount,
+                place,
+            });
+            out.note(fault)
+                .emit(image, Instruction::Call(given as u16, f.target))
+        }
+        None => out
+            .note(Some(Refusal {
+                cause: Cause::UnknownName,
+                place,
+            }))
+            .emit(image, Instruction::Call(given as u16, 0)),
     }
 }

@@ -6,10 +6,11 @@ ghost use Rattle.pass.specs.Known.{Spelled, Scoped, Declared as AllDeclared, ent
 ghost use Rattle.pass.specs.Outputs.{over_with};
 ghost use Rattle.pass.specs.Reads.{Fit, Takes, GoesHead, IsName, Limited, added, DeclarationsOn, GoesDeclaration, GoesDeclarations, pass_of, GoesRecipe, AreDeclared, GoesOver};
 
-use crate::cursor::{Level, Output, Spot, expect, is, name};
+use crate::cursor::{Level, Spot};
 use crate::descent::expression;
+use crate::instruction::Instruction;
 use crate::names::{Function, Scope, Variable, function_of, slot_of, with};
-use crate::output::{emit, unless, word};
+use crate::output::Output;
 use lexer::{Kind, Lexeme, next_token};
 use recipe::{Cause, Refusal, Word};
 
@@ -66,10 +67,10 @@ pub(crate) fn parameter(text: &[u8], here: Spot, scope: &Scope) -> Result<Parame
     requires { (Fit text.now here) × ((Scoped text.now scope.now) × (scope.now.count ≤ 8)) }
     ensures { Takes text.now here scope.now result }
 {
-    let after = name(text, here)?;
+    let after = here.expect(text, Kind::Name)?;
     if scope.count < 8 {
-        let fresh = slot_of(text, scope, here.look).is_none();
-        let out = unless(fresh, after.out, Cause::DeclaredTwice, here.look.start);
+        let again = slot_of(text, scope, here.look).is_some();
+        let fault = again.then_some(here.refused(Cause::DeclaredTwice));
         let inner = with(
             scope,
             Variable {
@@ -79,14 +80,14 @@ pub(crate) fn parameter(text: &[u8], here: Spot, scope: &Scope) -> Result<Parame
             },
         );
         Ok(Parameters {
-            next: Spot { out, ..after },
+            next: Spot {
+                out: after.out.note(fault),
+                ..after
+            },
             scope: inner,
         })
     } else {
-        Err(Refusal {
-            cause: Cause::Parameters,
-            place: here.look.start,
-        })
+        Err(here.refused(Cause::Parameters))
     }
 }
 
@@ -100,19 +101,19 @@ pub(crate) fn head(
     requires { (Fit text.now here.now) × ((here.now.out.at + 2 ≤ 2 * here.now.count + 4100) × (AllDeclared text.now functions.now)) }
     ensures { GoesHead text.now functions.now here.now image.old result image.new }
 {
-    let first = expect(text, *here, Word::Open)?;
+    let first = here.expect(text, Kind::Word(Word::Open))?;
     let empty = no_names();
     let mut so_far = parameter(text, first, &empty)?;
-    while is(so_far.next.look.kind, Word::Comma) {
-        let next = expect(text, so_far.next, Word::Comma)?;
+    while so_far.next.look.kind == Kind::Word(Word::Comma) {
+        let next = so_far.next.expect(text, Kind::Word(Word::Comma))?;
         so_far = parameter(text, next, &so_far.scope)?;
     }
-    let close = expect(text, so_far.next, Word::Close)?;
-    let equals = expect(text, close, Word::Equals)?;
+    let close = so_far.next.expect(text, Kind::Word(Word::Close))?;
+    let equals = close.expect(text, Kind::Word(Word::Equals))?;
     let mut scope = so_far.scope;
     let arity = scope.count;
     let body = Spot {
-        out: emit(equals.out, image, word(10, arity as u32)),
+        out: equals.out.emit(image, Instruction::Function(arity as u16)),
         ..equals
     };
     let level = Level {
@@ -122,7 +123,7 @@ pub(crate) fn head(
     let last = expression(text, functions, &body, level, &mut scope, image)?;
     Ok(Declared {
         next: Spot {
-            out: emit(last.out, image, word(7, 0)),
+            out: last.out.emit(image, Instruction::Back),
             ..last
         },
         arity,
@@ -143,14 +144,11 @@ pub(crate) fn function_name(text: &[u8], here: Spot, before: usize) -> Result<Sp
     requires { (Fit text.now here) × (before ≤ 32) }
     ensures { Limited text.now here before result }
 {
-    let after = name(text, here)?;
+    let after = here.expect(text, Kind::Name)?;
     if before < 32 {
         Ok(after)
     } else {
-        Err(Refusal {
-            cause: Cause::Functions,
-            place: here.look.start,
-        })
+        Err(here.refused(Cause::Functions))
     }
 }
 
@@ -228,7 +226,7 @@ pub(crate) fn declaration(
         ..after.out
     };
     let named = Spot {
-        out: unless(fresh, own, Cause::DeclaredTwice, here.look.start),
+        out: own.note((!fresh).then_some(here.refused(Cause::DeclaredTwice))),
         ..after
     };
     let inside = head(text, functions, &named, image)?;
@@ -254,7 +252,7 @@ pub(crate) fn declarations(
             fault: None,
         },
     };
-    let first = expect(text, start, Word::Let)?;
+    let first = start.expect(text, Kind::Word(Word::Let))?;
     let none = no_functions(first);
     let mut so_far = declaration(text, functions, &none, image)?;
     while is_name(so_far.next.look.kind) {
@@ -289,7 +287,7 @@ pub(crate) fn run(
     ensures { GoesRecipe text.now functions.now base image.old result image.new }
 {
     let heads = declarations(text, functions, base, image)?;
-    let within = expect(text, heads.next, Word::In)?;
+    let within = heads.next.expect(text, Kind::Word(Word::In))?;
     let main = Spot {
         out: Output {
             at: 1,
@@ -303,13 +301,10 @@ pub(crate) fn run(
     let last = expression(text, functions, &main, level, &mut empty, image)?;
     match last.look.kind {
         Kind::End => {
-            let out = emit(last.out, image, word(7, 0));
+            let out = last.out.emit(image, Instruction::Back);
             Ok(pass_of(&heads, out))
         }
-        _ => Err(Refusal {
-            cause: Cause::Grammar,
-            place: last.look.start,
-        }),
+        _ => Err(last.refused(Cause::Grammar)),
     }
 }
 

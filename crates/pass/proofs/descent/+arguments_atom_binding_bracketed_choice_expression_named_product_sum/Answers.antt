@@ -1,8 +1,9 @@
-use Rattle.std.proofs.Common.{◌+◌, ◌<◌, length, ap, ◌∙◌, arith, rules}
+use Rattle.std.proofs.Common.{◌+◌, ◌<◌, length, refl, ap, ◌∙◌, arith, rules}
 use Rattle.recipe.specs.declared.Word.TheVariants.{Open, Comma, Let, Ifp}
+use Rattle.lexer.specs.declared.Kind.TheVariants.{Word as WordKind}
 use Rattle.std.proofs.lemmas.Result.{MatchResult-weaker, err_from_is_err_and}
 use Rattle.pass.specs.Known.{ident, Known}
-use Rattle.pass.specs.Outputs.{emitted}
+use Rattle.pass.specs.Outputs.{emitted, word_for}
 use Rattle.pass.proofs.Lookups.{inner_env, inner_scoped, kept_here, kept_on, put_back}
 use Rattle.pass.specs.Reads.{ahead}
 use Rattle.pass.proofs.Steps.{known_token, known_ahead, other, arguments_more, arguments_more_bad, arguments_done, arguments_bad, number_read, name_read, call_read, bracket_read, bracket_bad, product_more, product_more_bad, product_full, product_done, sum_more, sum_more_bad, sum_full, sum_done, let_read, let_bad, ifp_read, ifp_bad, ifp_else_bad, ifp_first_bad, no_let_ifp, not_additive, not_multiplicative}
@@ -63,7 +64,7 @@ arguments-returns-in_err-next-2 t c =
     let r = c.in_err-next-2.ensures in
     let p = err_from_is_err_and c.from_residual-in_err-next-2.result c.from_residual-in_err-next-2.ensures.1 in
     record {
-      goes = rw (p.1, p.2, r.0.0, r.0.1) (arguments_bad (length text) i.read (other text Comma l.kind l.start l.end c.loop-level-test.ensures) r.1);
+      goes = rw (p.1, p.2, r.0.0, r.0.1) (arguments_bad (length text) i.read (other text Comma l.kind l.start l.end (grind arith)) r.1);
       kept = kept_on s.kept c.loop-level.invariant.1;
     }
 
@@ -98,7 +99,7 @@ atom-returns-in_ok-after-in-Number t c =
       goes = record {
         on = further c.requires.0 a.0.fit.0 a.0.fit.1 a.0.fit.3 a.0.far (omega (arith, a.1)) (omega (arith, a.1, at_of c.push.ensures.made, at_of a.0.out));
         read = number_read (length text) _ d a.1 a.0.fit.1;
-        made = from a.0.out (made_num _ c.push.ensures.made c.push.ensures.written c.word.ensures);
+        made = from a.0.out (made_num _ c.push.ensures.made c.push.ensures.written refl);
       };
       kept = kept_here c.requires.1.1.1;
     }
@@ -111,7 +112,7 @@ binding-expression-requires-2 t c =
     let few : c.expression.new.scope.count < 40 = omega (arith, k.counted, c.requires.1.0.2, e.0) in
     let room : c.expression.new.scope.count < length c.expression.new.scope.names = omega (arith, k.scoped.2, few) in
     let inner : Known c.args.text.now c.args.functions.now c.declare.new.scope =
-    (c.requires.1.1.0.0, inner_scoped c.args.text.now c.expression.new.scope c.declare.new.scope _ room few c.declare.ensures.count c.declare.ensures.names n.2.0 n.2.1 k.scoped) in
+    (c.requires.1.1.0.0, inner_scoped c.args.text.now c.expression.new.scope c.declare.new.scope _ room few c.declare.ensures.count c.declare.ensures.names e.1.fit.0.0 e.1.fit.0.1 k.scoped) in
     search rules
 
 pub binding-returns : goal.binding-returns
@@ -137,7 +138,7 @@ binding-returns t c =
             (omega (arith, e.2, n.1, q.1, v.on.more, w.1, r.on.more))
             (omega (arith, e.2, n.1, q.1, at_of o, v.on.slow, w.1, at_of w.0.out, r.on.slow, at_of c.emit.ensures.made));
         read = let_read (length text) x d e.0 e.2 e.1.fit.1 n.0.token q.0.token (q.1 ∙ n.1) v.read w.0.token v.on.fit.1 w.1 r.read;
-        made = made_let x (from o v.made) (from w.0.out (knowing i r.made)) c.emit.ensures.made c.emit.ensures.written c.word.ensures;
+        made = made_let x (from o v.made) (from w.0.out (knowing i r.made)) c.emit.ensures.made c.emit.ensures.written refl;
       };
       kept = put_back _ k c.declare.ensures.count c.declare.ensures.names c.in_ok-last.ensures.kept c.drop-inner-2.ensures.count c.drop-inner-2.ensures.names;
     }
@@ -231,7 +232,7 @@ choice-returns t c =
             (omega (arith, e.2, v.on.more, h.1, y.on.more, w.1, r.on.more))
             (omega (arith, e.2, at_of e.1.out, v.on.slow, h.1, at_of o₁, y.on.slow, w.1, at_of o₂, r.on.slow));
         read = ifp_read (length text) d e.0 e.2 e.1.fit.1 v.read h.0.token v.on.fit.1 h.1 y.read w.0.token y.on.fit.1 w.1 r.read;
-        made = made_ifp (from e.1.out v.made) o₁ y.made o₂ c.put.ensures h.0.out c.word.ensures r.made c.put-2.ensures w.0.out c.word-2.ensures;
+        made = made_ifp (from e.1.out v.made) o₁ y.made o₂ c.put.ensures h.0.out refl r.made c.put-2.ensures w.0.out refl;
       };
       kept = kept_on k₂ c.in_ok-last.ensures.kept;
     }
@@ -252,14 +253,14 @@ choice-returns-in_err-last t c =
       kept = kept_on (kept_on c.in_ok-then.ensures.kept c.in_ok-other.ensures.kept) c.in_err-last.ensures.kept;
     }
 
-pub expression-returns-else-is-2 : goal.expression-returns-else-is-2
-expression-returns-else-is-2 t c =
+pub expression-returns-in_default : goal.expression-returns-in_default
+expression-returns-in_default t c =
     let text = c.args.text.now in
     let n = c.args.here.now.count in
     let ts = ahead text c.args.here.now in
     let l = c.args.here.now.look in
-    let a = other text Let l.kind l.start l.end c.if-is.ensures in
-    let b = other text Ifp l.kind l.start l.end c.if-is-2.ensures in
+    let a = other text Let l.kind l.start l.end (grind arith) in
+    let b = other text Ifp l.kind l.start l.end (grind arith) in
     record {
       goes = MatchResult-weaker c.sum.result c.sum.ensures.goes
           (λ s r. record { on = r.on; read = record { tree = r.read.tree; goes = λ k e. no_let_ifp (length text) ts n k a b ∙ r.read.goes k e }; made = r.made })
@@ -278,7 +279,7 @@ named-returns-in_ok-given t c =
     let g = c.in_ok-given.ensures.goes in
     let r = g.through in
     let d = known_token text l.start l.end c.requires.1.1.1 a.0.token in
-    let e = known_token text m.start m.end c.if-is.ensures i.1.token in
+    let e = known_token text {k' = WordKind Open} m.start m.end (grind arith) i.1.token in
     let o = i.1.out ∙ a.0.out in
     record {
       goes = record {
@@ -290,9 +291,9 @@ named-returns-in_ok-given t c =
       kept = c.in_ok-given.ensures.kept;
     }
 
-pub named-returns-else-is : goal.named-returns-else-is
+pub named-returns-else-eq : goal.named-returns-else-eq
 unfolding name_read
-named-returns-else-is t c =
+named-returns-else-eq t c =
     let text = c.args.text.now in
     let l = c.args.here.now.look in
     let a = c.in_ok-after.ensures in
@@ -301,7 +302,7 @@ named-returns-else-is t c =
     record {
       goes = record {
         on = further c.requires.0 a.0.fit.0 a.0.fit.1 a.0.fit.3 a.0.far (omega (arith, a.1)) (omega (arith, a.1, at_of c.load-out.ensures.made, at_of a.0.out));
-        read = name_read (length text) _ d a.1 a.0.fit.1 (other text Open m.kind m.start m.end c.if-is.ensures);
+        read = name_read (length text) _ d a.1 a.0.fit.1 (other text Open m.kind m.start m.end (grind arith));
         made = from a.0.out (made_var (ident text l) c.load-out.ensures.made c.load-out.ensures.written);
       };
       kept = kept_here c.requires.1.1.0.1;
@@ -330,7 +331,7 @@ product-loop-level-preserved t c =
             record {
               on = on;
               read = product_more (length text) i.read (known_token text l.start l.end o.1 n.0.token) o.2 n.1 n.0.fit.1 r.read;
-              made = made_op o.0 i.made (from n.0.out r.made) c.emit.ensures.made c.emit.ensures.written (c.operator-joining.ensures o.0 o.1);
+              made = made_op o.0 i.made (from n.0.out r.made) c.emit.ensures.made c.emit.ensures.written (ap word_for (c.operator-joining.ensures o.0 o.1));
             },
       ),
       kept_on c.loop-level.invariant.1 c.in_ok-read.ensures.kept,
@@ -399,7 +400,7 @@ sum-loop-level-preserved t c =
             record {
               on = on;
               read = sum_more (length text) i.read (known_token text l.start l.end o.1 n.0.token) o.2 n.1 n.0.fit.1 r.read;
-              made = made_op o.0 i.made (from n.0.out r.made) c.emit.ensures.made c.emit.ensures.written (c.operator-joining.ensures o.0 o.1);
+              made = made_op o.0 i.made (from n.0.out r.made) c.emit.ensures.made c.emit.ensures.written (ap word_for (c.operator-joining.ensures o.0 o.1));
             },
       ),
       kept_on c.loop-level.invariant.1 c.in_ok-read.ensures.kept,

@@ -1,5 +1,7 @@
 use Rattle.std.proofs.Common.{◌<◌, length, is_some, sym, ap, ◌∙◌, arith}
-use Rattle.pass.specs.declared.cursor.Output.{Output}
+use Rattle.std.specs.Bool.{then_some}
+use Rattle.std.specs.Option.{option_to_list}
+use Rattle.pass.specs.declared.output.Output.{Output}
 use Rattle.pass.specs.Known.{ident, force, spelled}
 use Rattle.pass.specs.Outputs.{faulted, again}
 use Rattle.pass.proofs.Makes.{at_of}
@@ -17,12 +19,14 @@ returns-then-scope-lt8 c =
     record {
       few = c.if-scope-lt8.true;
       far = a.0.far;
-      fit = (a.0.fit.0, a.0.fit.1, omega (arith, at_of c.unless-out.ensures, a.0.fit.2), a.0.fit.3);
+      fit = (a.0.fit.0, a.0.fit.1, omega (arith, at_of c.note.ensures, a.0.fit.2), a.0.fit.3);
       token = a.0.token;
       same = a.1;
-      out = c.unless-out.ensures ∙ (ap (faulted c.in_ok-after.after.out) (again_slot (force text scope) (ident text l) c.is_none-fresh.result (ap is_some (sym c.slot_of.ensures) ∙ c.is_none-fresh.ensures))
-          ∙ ap (λ (o : Output). faulted o (again (spelled (force text scope)) (ident text l))) a.0.out);
+      out = c.note.ensures
+          ∙ (ap (λ f. faulted c.in_ok-after.after.out (option_to_list f)) (c.then_some-fault.ensures ∙ ap (then_some c.is_some-again.result) c.refused.ensures)
+          ∙ (ap (faulted c.in_ok-after.after.out) (again_slot (force text scope) (ident text l) c.is_some-again.result (ap is_some (sym c.slot_of.ensures) ∙ sym c.is_some-again.ensures))
+          ∙ ap (λ (o : Output). faulted o (again (spelled (force text scope)) (ident text l))) a.0.out));
       counted = w.0;
       known = inner_force text scope c.with-inner.result _ room w.0 w.1;
-      scoped = inner_scoped text scope c.with-inner.result _ room (omega (arith, c.if-scope-lt8.true)) w.0 w.1 a.2.0 a.2.1 c.requires.1.0;
+      scoped = inner_scoped text scope c.with-inner.result _ room (omega (arith, c.if-scope-lt8.true)) w.0 w.1 c.requires.0.0.0 c.requires.0.0.1 c.requires.1.0;
     }

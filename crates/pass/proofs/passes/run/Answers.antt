@@ -40,7 +40,7 @@ returns-in-End c =
     let scope = c.no_names-empty.result in
     let v = ap (λ k. record { signatures = signed text c.args.functions.now; entries = entered text c.args.functions.now; in_scope = in_force text scope.names k }) c.no_names-empty.ensures.0 in
     let m = main_made text c.args.base c.args.image.now ds e scope v refl refl (fault_of w.0.out ∙ d.made.fault) d.made.written
-    r.made c.emit-out.ensures.made c.emit-out.ensures.written c.word.ensures in
+    r.made c.emit-out.ensures.made c.emit-out.ensures.written refl in
     subst (λ (p : Pass). Passed text c.args.functions.now c.args.base c.args.image.now p c.emit-out.new.image) (sym c.pass_of.ensures) (record {
       declared = d.read.declared;
       at_in = h.next.look.start;
