@@ -10,7 +10,7 @@ use Rattle.recipe.specs.Image.{past, words, placed, FN, BACK}
 use Rattle.recipe.specs.Frames.{need}
 use Rattle.recipe.specs.declared.cause.Cause.TheVariants.{UnknownName}
 use Rattle.recipe.specs.declared.cause.Refusal.{Refusal}
-use Rattle.pass.specs.declared.cursor.Output.{Output}
+use Rattle.pass.specs.declared.output.Output.{Output}
 use Rattle.pass.specs.declared.names.Variable.{Variable}
 use Rattle.pass.specs.Known.{Env, spelled, in_force}
 use Rattle.pass.specs.Outputs.{emitted, faulted, Made, MadeHead}

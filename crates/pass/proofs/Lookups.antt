@@ -1,15 +1,18 @@
 -- What a name stands for.
-use Rattle.std.proofs.Common.{◌≡◌, ℕ, Bool, true, false, cond, not, ◌||◌, List, [], ◌∷◌, ◌++◌, length, map, take, is_some, Some, None, Option, sym, refl, ap, ◌∙◌}
+use Rattle.std.proofs.Common.{◌≡◌, ℕ, Bool, true, false, cond, ◌||◌, List, [], ◌∷◌, ◌++◌, length, map, take, is_some, Some, None, Option, sym, refl, ap, ◌∙◌}
 use mathlib.Core.Option as opt
 use Rattle.std.specs.List.{find}
-use Rattle.std.specs.Option.{option_map, MatchOption, IsSomeAnd}
+use Rattle.std.specs.Option.{option_map, option_to_list, MatchOption, IsSomeAnd}
 use Rattle.std.specs.Str.{bytes_eq}
 use Rattle.std.proofs.lemmas.List.{reverse-append}
 use Rattle.std.proofs.Math.Seq.{take-append_seam}
 use Rattle.arrayvec.specs.ArrayVec.{ArrayVec}
 use Rattle.recipe.specs.Tokens.{Ident}
-use Rattle.recipe.specs.Names.{among, arity_of, fault_unless}
-use Rattle.pass.specs.Outputs.{again}
+use Rattle.std.specs.Bool.{then_some}
+use Rattle.recipe.specs.Names.{among, arity_of}
+use Rattle.pass.specs.Outputs.{again, faulted}
+use Rattle.pass.specs.declared.output.Output.{Output}
+use Rattle.recipe.specs.declared.cause.Refusal.{Refusal}
 use Rattle.recipe.specs.Image.{Bound, find as found}
 use Rattle.recipe.specs.declared.cause.Cause.TheVariants.{DeclaredTwice}
 use Rattle.pass.specs.declared.names.Function.{Function}
@@ -96,6 +99,21 @@ put_back {outer = outer} {inner = inner} {after = after} {n = n} v k e i m b =
     ∙ (ap (take (length outer.items)) e ∙ take-append_seam outer.items (v ∷ []))) in
     ap (λ (xs : List Variable). record { items = xs }) (b ∙ kept) ∙ k
 
-pub again_slot : (bs : List Bound) (x : Ident) (r : Bool) → is_some (slot_in bs x.name) ≡ not r → fault_unless r x.place DeclaredTwice ≡ again (spelled bs) x
-again_slot bs x true e = ap (λ t. cond t (record { place = x.place; cause = DeclaredTwice } ∷ []) []) (sym (among_slot bs x.name ∙ e))
-again_slot bs x false e = ap (λ t. cond t (record { place = x.place; cause = DeclaredTwice } ∷ []) []) (sym (among_slot bs x.name ∙ e))
+-- the fault of a name that stands before
+again_noted : (names : List (List ℕ)) (x : Ident) (t : Bool) → among names x.name ≡ t → option_to_list (then_some t (record { cause = DeclaredTwice; place = x.place })) ≡ again names x
+again_noted names x true e = ap (λ t. cond t (record { place = x.place; cause = DeclaredTwice } ∷ []) []) (sym e)
+again_noted names x false e = ap (λ t. cond t (record { place = x.place; cause = DeclaredTwice } ∷ []) []) (sym e)
+
+pub noted_again : (o : Output) (names : List (List ℕ)) (x : Ident) {o' : Output} {f : Option Refusal} {r : Refusal} {t : Bool} → o' ≡ faulted o (option_to_list f) → f ≡ then_some t r →
+    r ≡ record { cause = DeclaredTwice; place = x.place } → among names x.name ≡ t → o' ≡ faulted o (again names x)
+noted_again o names x {t = t} a b e k =
+    a ∙ (ap (λ (g : Option Refusal). faulted o (option_to_list g)) (b ∙ ap (then_some t) e) ∙ ap (faulted o) (again_noted names x t k))
+
+-- whether a name is found in a list that is another, by the name's bytes
+pub slot_again : {vs ws : List Variable} {x y : List ℕ} {r : Option ℕ} {t : Bool} → r ≡ slot_in (in_force ws) y → ws ≡ vs → y ≡ x → t ≡ is_some r → among (spelled (in_force vs)) x ≡ t
+slot_again {vs = vs} {x = x} {y = y} a e n k =
+    among_slot (in_force vs) x ∙ sym (k ∙ ap is_some (a ∙ (ap (λ (us : List Variable). slot_in (in_force us) y) e ∙ ap (slot_in (in_force vs)) n)))
+
+pub function_again : {fs gs : List Function} {x y : List ℕ} {r : Option Function} {t : Bool} → r ≡ first_of gs y → gs ≡ fs → y ≡ x → t ≡ is_some r → among (spelled (entered fs)) x ≡ t
+function_again {fs = fs} {x = x} {y = y} a e n k =
+    among_first fs x ∙ sym (k ∙ ap is_some (a ∙ (ap (λ (hs : List Function). first_of hs y) e ∙ ap (first_of fs) n)))

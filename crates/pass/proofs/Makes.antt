@@ -1,12 +1,14 @@
 -- What one output and the next come to together.
-use Rattle.std.proofs.Common.{◌≡◌, ℕ, ◌+◌, max, List, [], ◌∷◌, ◌++◌, set, Option, sym, refl, ap, ◌∙◌, subst, arith}
+use Rattle.std.proofs.Common.{◌≡◌, ℕ, ◌+◌, Bool, true, false, not, max, List, [], ◌∷◌, ◌++◌, set, Option, sym, refl, ap, ◌∙◌, subst, arith}
 use Rattle.recipe.specs.declared.Op.{Op}
 use Rattle.recipe.specs.Tokens.{Ident, Literal}
 use Rattle.recipe.specs.Grammar.{Expr, num, var, op, let_in, ifp, call, weigh, group, Arguments, one, more}
-use Rattle.recipe.specs.Names.{earliest, count}
+use Rattle.std.specs.Bool.{then_some}
+use Rattle.std.specs.Option.{option_to_list}
+use Rattle.recipe.specs.Names.{earliest, count, fault_unless}
 use Rattle.recipe.specs.Image.{past, pasts, words, arguments, placed, find, NUM, VAR, WEIGH, OP, OUT, UNLESS, GO, CALL}
 use Rattle.recipe.specs.Frames.{need, needs}
-use Rattle.pass.specs.declared.cursor.Output.{Output}
+use Rattle.pass.specs.declared.output.Output.{Output}
 use Rattle.recipe.specs.Names.{faults, faults_of, arity_of, call_faults}
 use Rattle.recipe.specs.declared.cause.Refusal.{Refusal}
 use Rattle.pass.specs.Known.{Env, spelled}
@@ -24,6 +26,11 @@ peak_of e = ap (λ (x : Output). x.peak) e
 
 pub fault_of : {o o' : Output} → o ≡ o' → o.fault ≡ o'.fault
 fault_of e = ap (λ (x : Output). x.fault) e
+
+-- a fault unless all is well
+pub noted_unless : (b : Bool) (r : Refusal) → option_to_list (then_some (not b) r) ≡ fault_unless b r.place r.cause
+noted_unless true r = refl
+noted_unless false r = refl
 
 peak_joined : (p h a b p₁ p₂ : ℕ) → p₁ ≡ max p (h + a) → p₂ ≡ max p₁ ((h + 1) + b) → p₂ ≡ max p (h + max a (1 + b))
 peak_joined p h a b p₁ p₂ e f = omega arith

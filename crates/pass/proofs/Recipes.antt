@@ -11,7 +11,7 @@ use Rattle.recipe.specs.Limits.{reading}
 use Rattle.recipe.specs.Names.{earliest, Signature, all, twice, names_of, declared_names, faults, body_faults}
 use Rattle.recipe.specs.Frames.{need}
 use Rattle.recipe.specs.Image.{Bound, past, words, slots, placed, entries, bodies, past_all, FN, BACK}
-use Rattle.pass.specs.declared.cursor.Output.{Output}
+use Rattle.pass.specs.declared.output.Output.{Output}
 use Rattle.pass.specs.declared.cursor.Spot.{Spot}
 use Rattle.pass.specs.declared.names.Function.{Function}
 use Rattle.pass.specs.declared.passes.Heads.{Heads}

@@ -1,20 +1,21 @@
 -- What one call's promise and the next one's give together.
-use Rattle.std.proofs.Common.{◌≡◌, ℕ, ◌+◌, ◌<◌, ◌≤◌, Bool, true, false, cond, leb, List, [], ◌∷◌, sym, refl, ap, ◌∙◌, subst, arith}
+use Rattle.std.proofs.Common.{◌≡◌, ℕ, ◌+◌, ◌<◌, ◌≤◌, Bool, true, false, cond, leb, ◌==◌, List, [], ◌∷◌, get_or, inl, inr, sym, refl, ap, ◌∙◌, subst, arith}
 use mathlib.Core.Option.{Option, none, some}
 use Rattle.std.proofs.lemmas.Bool.{le-leb, lt-leb}
+use Rattle.std.proofs.lemmas.Bool.Decides.{eqb_tells}
 use Rattle.recipe.specs.declared.Op.{Op}
 use Rattle.recipe.specs.declared.Op.TheVariants.{Plus, Minus, Times, Over}
 use Rattle.recipe.specs.declared.Word.{Word}
 use Rattle.recipe.specs.declared.Word.TheVariants.{Let, In, Ifp, Then, Else, Weigh, Open, Close, Comma, Equals}
 use Rattle.recipe.specs.Tokens.{Ident, Literal, Token, Number, Name, Operator, TheWord, Bad, Verdict, fine, wrong}
 use Rattle.recipe.specs.Grammar.{Expr, num, var, op, let_in, ifp, call, weigh, group, Arguments, one, more, Several, one_only, and_then, Declaration, declare, Recipe, recipe, JoinsProducts, by_plus, by_minus, JoinsAtoms, by_times, by_over}
-use Rattle.recipe.specs.Machine.{Left, nothing, left, apply, Context, in_body, in_main, let_value, let_body, if_test, if_then, if_else, bracket, argument, State, start, first_head, head_open, head_name, head_next, head_equals, want, let_name, let_equals, operand, weighed, named, after_product, after_sum, after_expr}
+use Rattle.recipe.specs.Machine.{code, Left, nothing, left, apply, Context, in_body, in_main, let_value, let_body, if_test, if_then, if_else, bracket, argument, State, start, first_head, head_open, head_name, head_next, head_equals, want, let_name, let_equals, operand, weighed, named, after_product, after_sum, after_expr}
 use Rattle.recipe.specs.Limits.{depth, unless, reading, size}
 use Rattle.lexer.specs.Lexed.{token_of, then_from}
 use Rattle.lexer.specs.declared.Kind.{Kind}
 use Rattle.lexer.specs.declared.Kind.TheVariants.{Number as KNumber, Name as KName, Operator as KOperator, Word as KWord, Bad as KBad, End as KEnd}
 use Rattle.recipe.specs.Theorem.{first_place}
-use Rattle.pass.specs.Reads.{IsWord, IsName, Adds, Multiplies, Additive, Multiplicative, OtherWord, NoName, Read, BadFrom, an_expr, a_sum, a_product, an_atom, a_call, arguments_so_far, product_so_far, sum_so_far, from_expr, from_sum, from_product, from_atom, from_call, after_arguments, NamesSoFar, ReadHead, BadHead, DeclarationsSoFar, after_declarations}
+use Rattle.pass.specs.Reads.{Missing, IsName, Adds, Multiplies, Additive, Multiplicative, OtherWord, NoName, Read, BadFrom, an_expr, a_sum, a_product, an_atom, a_call, arguments_so_far, product_so_far, sum_so_far, from_expr, from_sum, from_product, from_atom, from_call, after_arguments, NamesSoFar, ReadHead, BadHead, DeclarationsSoFar, after_declarations}
 
 -- Limits that are kept, and limits that are not.
 pub room : (n p : ℕ) (v : Verdict Recipe) → n ≤ 2000 → unless (cond (leb n 2000) 0 14) p v ≡ v
@@ -36,13 +37,52 @@ known_token text p e {us = us} q d = d ∙ ap (λ j. token_of text j p e ∷ us)
 pub known_ahead : (text : List ℕ) {k k' : Kind} (p e : ℕ) → k ≡ k' → then_from text k p e ≡ then_from text k' p e
 known_ahead text p e q = ap (λ j. then_from text j p e) q
 
-pub other : (text : List ℕ) (w : Word) (k : Kind) (p e : ℕ) → IsWord false w k → OtherWord w (then_from text k p e)
+-- Words are told apart by their numbers.
+abbrev word_at : ℕ → Word
+word_at n = get_or (Let ∷ In ∷ Ifp ∷ Then ∷ Else ∷ Weigh ∷ Open ∷ Close ∷ Comma ∷ Equals ∷ []) n Let
+
+word_back : (w : Word) → word_at (code w) ≡ w
+word_back Let = refl
+word_back In = refl
+word_back Ifp = refl
+word_back Then = refl
+word_back Else = refl
+word_back Weigh = refl
+word_back Open = refl
+word_back Close = refl
+word_back Comma = refl
+word_back Equals = refl
+
+other_word : (w v : Word) → (v ≡ w → ⊥) → (code w == code v) ≡ false
+other_word w v h = elim (eqb_tells (code w) (code v)) [
+  | inl e ↦ absurd (h (sym (word_back v) ∙ (ap word_at (sym e.1) ∙ word_back w)))
+  | inr e ↦ e.0
+]
+
+-- A kind that is not asked for, and what it says of the tokens.
+pub other : (text : List ℕ) (w : Word) (k : Kind) (p e : ℕ) → (k ≡ KWord w → ⊥) → OtherWord w (then_from text k p e)
 other text w (KNumber n) p e h = tt
 other text w KName p e h = tt
 other text w (KOperator o) p e h = tt
-other text w (KWord v) p e h = h
+other text w (KWord v) p e h = other_word w v (λ q. h (ap KWord q))
 other text w (KBad c) p e h = tt
 other text w KEnd p e h = tt
+
+pub nameless : (text : List ℕ) (k : Kind) (p e : ℕ) → (k ≡ KName → ⊥) → NoName (then_from text k p e)
+nameless text (KNumber n) p e h = tt
+nameless text KName p e h = absurd (h refl)
+nameless text (KOperator o) p e h = tt
+nameless text (KWord v) p e h = tt
+nameless text (KBad c) p e h = tt
+nameless text KEnd p e h = tt
+
+pub missing : (text : List ℕ) (kind k : Kind) (p e : ℕ) → (k ≡ kind → ⊥) → Missing kind (then_from text k p e)
+missing text (KNumber n) k p e h = tt
+missing text KName k p e h = nameless text k p e h
+missing text (KOperator o) k p e h = tt
+missing text (KWord w) k p e h = other text w k p e h
+missing text (KBad c) k p e h = tt
+missing text KEnd k p e h = tt
 
 pub unnamed : (text : List ℕ) (k : Kind) (p e : ℕ) → IsName false k → NoName (then_from text k p e)
 unnamed text (KNumber n) p e h = tt

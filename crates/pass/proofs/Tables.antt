@@ -1,15 +1,15 @@
 -- The functions found, as a table.
-use Rattle.std.proofs.Common.{◌≡◌, ℕ, ◌+◌, ◌<◌, Bool, true, false, cond, not, leb, List, [], ◌∷◌, ◌++◌, length, Some, None, Option, sym, refl, ap, ◌∙◌, subst, arith}
+use Rattle.std.proofs.Common.{◌≡◌, ℕ, ◌+◌, ◌<◌, true, false, cond, leb, List, [], ◌∷◌, ◌++◌, length, Some, None, Option, sym, refl, ap, ◌∙◌, subst, arith}
 use Rattle.std.proofs.lemmas.List.{length_push, map-append}
 use Rattle.recipe.specs.declared.cause.Refusal.{Refusal}
-use Rattle.recipe.specs.declared.cause.Cause.TheVariants.{DeclaredTwice, Frame}
+use Rattle.recipe.specs.declared.cause.Cause.TheVariants.{Frame}
 use Rattle.recipe.specs.Causes.{cause_number}
 use Rattle.recipe.specs.Tokens.{Ident, Name, fine, wrong}
 use Rattle.recipe.specs.Grammar.{Expr, Several, Declaration, declare}
-use Rattle.recipe.specs.Names.{Signature, all, among, earliest, fault_unless, signatures}
+use Rattle.recipe.specs.Names.{Signature, all, earliest, signatures}
 use Rattle.recipe.specs.Frames.{need, frames}
 use Rattle.recipe.specs.Image.{Bound, past, past_all, entries}
-use Rattle.pass.specs.declared.cursor.Output.{Output}
+use Rattle.pass.specs.declared.output.Output.{Output}
 use Rattle.pass.specs.declared.cursor.Spot.{Spot}
 use Rattle.pass.specs.declared.names.Function.{Function}
 use Rattle.pass.specs.declared.passes.Declared.{Declared as ADeclared}
@@ -64,30 +64,17 @@ frames_over (declare f xs b ∷ ds) p e =
     [ true ↦ frames_over ds p e | false ↦ ap (λ (o : Option ℕ). frame_verdict (over_with o (need e) p)) (over_stays f.place ds) ]
 
 -- past the name of a function
-unless_among : (t : Bool) (p : ℕ) → fault_unless (not t) p DeclaredTwice ≡ cond t (record { place = p; cause = DeclaredTwice } ∷ []) []
-unless_among true p = refl
-unless_among false p = refl
-
-pub not_some : {b s t : Bool} → s ≡ not b → t ≡ s → b ≡ not t
-not_some {b = true} e f = ap not (sym (f ∙ e))
-not_some {b = false} e f = ap not (sym (f ∙ e))
-
-pub past_name : (text : List ℕ) (h : Heads) {after : Spot} {fresh : Bool} {o : Output} → length h.functions.items < 32 → Past text h.next (Name (ident text h.next.look)) after →
-    after.count ≡ h.next.count → fresh ≡ not (among (spelled (entered h.functions.items)) (ident text h.next.look).name) →
-    o ≡ faulted (record { at = after.out.at; peak = 0; fault = after.out.fault }) (fault_unless fresh h.next.look.start DeclaredTwice) →
+pub past_name : (text : List ℕ) (h : Heads) {after : Spot} {o : Output} → length h.functions.items < 32 → Past text h.next (Name (ident text h.next.look)) after → after.count ≡ h.next.count →
+    o ≡ faulted (record { at = after.out.at; peak = 0; fault = after.out.fault }) (again (spelled (entered h.functions.items)) (ident text h.next.look)) →
     PastName text h (record { look = after.look; count = after.count; out = o })
-past_name text h {after = after} l p c f u =
-    let known = spelled (entered h.functions.items) in
-    let x = ident text h.next.look in
-    record {
-      few = l;
-      token = p.token;
-      same = c;
-      index = at_of u ∙ at_of p.out;
-      peak = peak_of u;
-      fault = fault_of u ∙ (ap (λ t. earliest after.out.fault (fault_unless t x.place DeclaredTwice)) f
-          ∙ (ap (earliest after.out.fault) (unless_among (among known x.name) x.place) ∙ ap (λ (y : Option Refusal). earliest y (again known x)) (fault_of p.out)));
-    }
+past_name text h l p c u = record {
+  few = l;
+  token = p.token;
+  same = c;
+  index = at_of u ∙ at_of p.out;
+  peak = peak_of u;
+  fault = fault_of u ∙ ap (λ (y : Option Refusal). earliest y (again (spelled (entered h.functions.items)) (ident text h.next.look))) (fault_of p.out);
+}
 
 pub added_on : (text : List ℕ) (functions : List Function) (h : Heads) {h' : Heads} {s : Spot} {d : ADeclared} {m m' : List ℕ} → DeclarationsOn text h → PastName text h s → Headed text functions s m d m' →
     With text h d h' → DeclarationsOn text h'

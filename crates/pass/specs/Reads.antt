@@ -1,5 +1,5 @@
 -- What the reading functions promise.
-use Rattle.std.specs.Prelude.{◌≡◌, ℕ, ◌+◌, ◌*◌, ◌<◌, ◌≤◌, Bool, true, false, ◌⊎◌, List, [], ◌∷◌, ◌++◌, length, Some, None, Option, Result, MatchResult, ◌==◌}
+use Rattle.std.specs.Prelude.{◌≡◌, ℕ, ◌+◌, ◌*◌, ◌<◌, ◌≤◌, ◌≢◌, Bool, true, false, ◌⊎◌, List, [], ◌∷◌, ◌++◌, length, Some, None, Option, Result, MatchResult, ◌==◌}
 use Rattle.std.proofs.Math.Option.{none, some}
 use Rattle.std.proofs.Math.Option as opt
 use Rattle.recipe.specs.declared.Op.{Op}
@@ -10,19 +10,19 @@ use Rattle.recipe.specs.Grammar.{Expr, call, Arguments, one, more, JoinsProducts
 use Rattle.recipe.specs.Machine.{code, Left, nothing, apply, Context, argument, in_body, State, start, head_open, head_next, want, operand, after_product, after_sum, after_expr}
 use Rattle.recipe.specs.Theorem.{first_place}
 use Rattle.recipe.specs.Limits.{depth, reading, size}
-use Rattle.lexer.specs.Lexed.{tokens_from, rest, Valid, Small, token_of}
+use Rattle.lexer.specs.Lexed.{rest, Valid, Small, token_of}
 use Rattle.lexer.specs.declared.Kind.{Kind}
 use Rattle.lexer.specs.declared.Kind.TheVariants.{Number, Name, Operator, Word, Bad, End}
-use Rattle.lexer.specs.declared.Lexeme.{Lexeme}
 use Rattle.pass.specs.declared.cursor.Spot.{Spot}
 use Rattle.recipe.specs.declared.cause.Refusal.{Refusal}
 use Rattle.recipe.specs.Causes.{cause_number}
+use Rattle.recipe.specs.declared.cause.Cause.{Cause}
 use Rattle.recipe.specs.declared.cause.Cause.TheVariants.{Grammar, Nesting, Functions, Parameters as TooManyParameters, Constructs, Frame}
 use Rattle.pass.specs.declared.cursor.Level.{Level}
 use Rattle.pass.specs.declared.descent.Given.{Given}
 use Rattle.recipe.specs.Names.{count as argument_count}
 use Rattle.pass.specs.declared.names.Variable.{Variable}
-use Rattle.pass.specs.declared.cursor.Output.{Output}
+use Rattle.pass.specs.declared.output.Output.{Output}
 use Rattle.pass.specs.declared.passes.Declared.{Declared as ADeclared}
 use Rattle.pass.specs.declared.names.Function.{Function}
 use Rattle.pass.specs.Known.{Env, ident, in_force, spelled, signed, entered}
@@ -48,9 +48,6 @@ AtKind s k = s.look.kind ≡ k
 abbrev pub ahead : List ℕ → Spot → List Token
 ahead text s = rest text s.look
 
-abbrev pub Stepped : List ℕ → Lexeme → Lexeme → Type 0
-Stepped text l r = (l.end ≤ r.start) × Valid text r × (tokens_from text l.end ≡ rest text r) × Small r.kind
-
 -- no token `w` comes first
 abbrev pub OtherWord : AWord → List Token → Type 0
 OtherWord w [] = Unit {0}
@@ -68,15 +65,6 @@ NoName (AnOperator p o ∷ ts) = Unit {0}
 NoName (TheWord p v ∷ ts) = Unit {0}
 NoName (ABad p c ∷ ts) = Unit {0}
 
-abbrev pub IsWord : Bool → AWord → Kind → Type 0
-IsWord true w k = k ≡ Word w
-IsWord false w (Number n) = Unit {0}
-IsWord false w Name = Unit {0}
-IsWord false w (Operator o) = Unit {0}
-IsWord false w (Word v) = (code w == code v) ≡ false
-IsWord false w (Bad c) = Unit {0}
-IsWord false w End = Unit {0}
-
 -- Further on: the next spot, with a token `t` between that makes no word.
 pub record Past (text : List ℕ) (here : Spot) (t : Token) (s : Spot) : Type 0 where
   pub far : here.look.start < s.look.start
@@ -84,29 +72,33 @@ pub record Past (text : List ℕ) (here : Spot) (t : Token) (s : Spot) : Type 0 
   pub fit : Fit text s
   pub token : ahead text here ≡ t ∷ ahead text s
 
+abbrev pub refused_at : Spot → Cause → Refusal
+refused_at here c = record { cause = c; place = here.look.start }
+
 -- a refusal for the grammar, here
 abbrev pub Stops : List ℕ → Spot → Refusal → Type 0
 Stops text here e = (e.cause ≡ Grammar) × (e.place ≡ first_place (length text) (ahead text here))
 
-abbrev pub Expects : List ℕ → Spot → AWord → Result Spot Refusal → Type 0
-Expects text here w r =
-    MatchResult r (λ s. Past text here (TheWord here.look.start w) s × (s.count ≡ here.count)) (λ e. Stops text here e × OtherWord w (ahead text here))
+-- no token of the kind comes first, where that is a word or a name
+abbrev pub Missing : Kind → List Token → Type 0
+Missing (Number n) ts = Unit {0}
+Missing Name ts = NoName ts
+Missing (Operator o) ts = Unit {0}
+Missing (Word w) ts = OtherWord w ts
+Missing (Bad c) ts = Unit {0}
+Missing End ts = Unit {0}
 
-abbrev pub Names : List ℕ → Spot → Result Spot Refusal → Type 0
-Names text here r =
-    MatchResult r (λ s. Past text here (AName (ident text here.look)) s × (s.count ≡ here.count)) (λ e. Stops text here e × NoName (ahead text here))
-
-abbrev pub NoNumber : List Token → Type 0
-NoNumber [] = Unit {0}
-NoNumber (ANumber n ∷ ts) = ⊥
-NoNumber (AName x ∷ ts) = Unit {0}
-NoNumber (AnOperator p o ∷ ts) = Unit {0}
-NoNumber (TheWord p v ∷ ts) = Unit {0}
-NoNumber (ABad p c ∷ ts) = Unit {0}
+abbrev pub Expects : List ℕ → Spot → Kind → Result Spot Refusal → Type 0
+Expects text here kind r =
+    MatchResult r (λ s. Past text here (token_of text kind here.look.start here.look.end) s × (s.count ≡ here.count) × (here.look.kind ≡ kind))
+    (λ e. Stops text here e × Missing kind (ahead text here) × (here.look.kind ≢ kind))
 
 -- the token of a spot
 abbrev pub the_token : List ℕ → Spot → Token
 the_token text here = token_of text here.look.kind here.look.start here.look.end
+
+abbrev pub Passes : List ℕ → Spot → Spot → Type 0
+Passes text here s = Past text here (the_token text here) s × (s.count ≡ here.count)
 
 abbrev pub Counts : List ℕ → Spot → Result Spot Refusal → Type 0
 Counts text here r =

@@ -5,11 +5,11 @@ ghost use Rattle.pass.specs.Reads.{Fit, Stands, Goes, an_expr, from_expr, a_sum,
 ghost use Rattle.lexer.specs.declared.Kind.TheVariants.{Name as NameKind, Word as WordKind};
 ghost use Rattle.recipe.specs.declared.Word.TheVariants.{Let as LetWord, Ifp as IfpWord, Open as OpenWord, Weigh as WeighWord};
 
-use crate::cursor::{
-    Level, Spot, additive, construct, enter, expect, is, multiplicative, name, open, step,
-};
+use crate::chain::{additive, multiplicative, operator};
+use crate::cursor::{Level, Spot};
+use crate::instruction::Instruction;
 use crate::names::{Function, Scope, Variable, Within, call, channel, load, spelling};
-use crate::output::{emit, operator, push, put, skip, word};
+use crate::output::put;
 use lexer::Kind;
 use recipe::{Cause, Refusal, Word};
 
@@ -33,12 +33,10 @@ pub(crate) fn expression<'t>(
     ensures goes { Goes an_expr from_expr text.now (env functions.now scope.old.items) here.now level image.old result image.new }
     ensures kept { scope.new ≡ scope.old }
 {
-    if is(here.look.kind, Word::Let) {
-        binding(text, functions, here, level, scope, image)
-    } else if is(here.look.kind, Word::Ifp) {
-        choice(text, functions, here, level, scope, image)
-    } else {
-        sum(text, functions, here, level, scope, image)
+    match here.look.kind {
+        Kind::Word(Word::Let) => binding(text, functions, here, level, scope, image),
+        Kind::Word(Word::Ifp) => choice(text, functions, here, level, scope, image),
+        _ => sum(text, functions, here, level, scope, image),
     }
 }
 
@@ -56,15 +54,15 @@ pub(crate) fn binding<'t>(
     ensures goes { Goes an_expr from_expr text.now (env functions.now scope.old.items) here.now level image.old result image.new }
     ensures kept { scope.new ≡ scope.old }
 {
-    let named = enter(text, *here, level.depth)?;
-    let equals = name(text, named)?;
-    let value = expect(text, equals, Word::Equals)?;
+    let named = here.enter(text, level.depth)?;
+    let equals = named.expect(text, Kind::Name)?;
+    let value = equals.expect(text, Kind::Word(Word::Equals))?;
     let deeper = Level {
         depth: level.depth + 1,
         held: level.held,
     };
     let within = expression(text, functions, &value, deeper, scope, image)?;
-    let body = expect(text, within, Word::In)?;
+    let body = within.expect(text, Kind::Word(Word::In))?;
     let old = scope.len();
     let inner = Within { scope, old };
     inner.scope.push(Variable {
@@ -77,7 +75,7 @@ pub(crate) fn binding<'t>(
     };
     let last = expression(text, functions, &body, deeper, inner.scope, image)?;
     Ok(Spot {
-        out: emit(last.out, image, word(3, 0)),
+        out: last.out.emit(image, Instruction::Out),
         ..last
     })
 }
@@ -96,28 +94,28 @@ pub(crate) fn choice<'t>(
     ensures goes { Goes an_expr from_expr text.now (env functions.now scope.old.items) here.now level image.old result image.new }
     ensures kept { scope.new ≡ scope.old }
 {
-    let test = enter(text, *here, level.depth)?;
+    let test = here.enter(text, level.depth)?;
     let deeper = Level {
         depth: level.depth + 1,
         held: level.held,
     };
     let then = expression(text, functions, &test, deeper, scope, image)?;
-    let first = expect(text, then, Word::Then)?;
+    let first = then.expect(text, Kind::Word(Word::Then))?;
     let branch = first.out.at;
     let first = Spot {
-        out: skip(first.out),
+        out: first.out.skip(),
         ..first
     };
     let other = expression(text, functions, &first, deeper, scope, image)?;
-    let second = expect(text, other, Word::Else)?;
+    let second = other.expect(text, Kind::Word(Word::Else))?;
     let jump = second.out.at;
     let second = Spot {
-        out: skip(second.out),
+        out: second.out.skip(),
         ..second
     };
-    put(image, branch, word(4, second.out.at as u32));
+    put(image, branch, Instruction::Unless(second.out.at as u16));
     let last = expression(text, functions, &second, deeper, scope, image)?;
-    put(image, jump, word(5, last.out.at as u32));
+    put(image, jump, Instruction::Go(last.out.at as u16));
     Ok(last)
 }
 
@@ -137,7 +135,7 @@ pub(crate) fn sum<'t>(
     let mut so_far = product(text, functions, here, level, scope, image)?;
     while additive(so_far.look.kind) {
         let joining = operator(so_far.look.kind);
-        let right = construct(text, so_far)?;
+        let right = so_far.construct(text)?;
         let read = product(
             text,
             functions,
@@ -150,7 +148,7 @@ pub(crate) fn sum<'t>(
             image,
         )?;
         so_far = Spot {
-            out: emit(read.out, image, joining),
+            out: read.out.emit(image, joining),
             ..read
         };
     }
@@ -173,7 +171,7 @@ pub(crate) fn product<'t>(
     let mut so_far = atom(text, functions, here, level, scope, image)?;
     while multiplicative(so_far.look.kind) {
         let joining = operator(so_far.look.kind);
-        let right = construct(text, so_far)?;
+        let right = so_far.construct(text)?;
         let read = atom(
             text,
             functions,
@@ -186,7 +184,7 @@ pub(crate) fn product<'t>(
             image,
         )?;
         so_far = Spot {
-            out: emit(read.out, image, joining),
+            out: read.out.emit(image, joining),
             ..read
         };
     }
@@ -206,25 +204,20 @@ pub(crate) fn atom<'t>(
     ensures goes { Goes an_atom from_atom text.now (env functions.now scope.old.items) here.now level image.old result image.new }
     ensures kept { scope.new ≡ scope.old }
 {
-    if is(here.look.kind, Word::Weigh) {
-        weighing(text, functions, here, level, scope, image)
-    } else if is(here.look.kind, Word::Open) {
-        bracketed(text, functions, here, level, scope, image)
-    } else {
-        match here.look.kind {
-            Kind::Number(value) => {
-                let after = construct(text, *here)?;
-                Ok(Spot {
-                    out: push(after.out, level.held, image, word(0, value)),
-                    ..after
-                })
-            }
-            Kind::Name => named(text, functions, here, level, scope, image),
-            _ => Err(Refusal {
-                cause: Cause::Grammar,
-                place: here.look.start,
-            }),
+    match here.look.kind {
+        Kind::Number(value) => {
+            let after = here.construct(text)?;
+            Ok(Spot {
+                out: after
+                    .out
+                    .push(level.held, image, Instruction::Number(value)),
+                ..after
+            })
         }
+        Kind::Name => named(text, functions, here, level, scope, image),
+        Kind::Word(Word::Weigh) => weighing(text, functions, here, level, scope, image),
+        Kind::Word(Word::Open) => bracketed(text, functions, here, level, scope, image),
+        _ => Err(here.refused(Cause::Grammar)),
     }
 }
 
@@ -239,20 +232,16 @@ pub(crate) fn weighing<'t>(
     requires { (Fit text.now here.now) × ((Stands here.now level scope.now.items) × (AtKind here.now (WordKind WeighWord))) }
     ensures { Goes an_atom from_atom text.now (env functions.now scope.now.items) here.now level image.old result image.new }
 {
-    let after = construct(text, *here)?;
+    let after = here.construct(text)?;
     match after.look.kind {
         Kind::Number(value) => {
             let out = channel(after.out, level.held, value, after.look.start, image);
             Ok(Spot {
-                look: step(text, after.look),
                 out,
-                ..after
+                ..after.past(text)
             })
         }
-        _ => Err(Refusal {
-            cause: Cause::Grammar,
-            place: after.look.start,
-        }),
+        _ => Err(after.refused(Cause::Grammar)),
     }
 }
 
@@ -269,7 +258,7 @@ pub(crate) fn bracketed<'t>(
     ensures goes { Goes an_atom from_atom text.now (env functions.now scope.old.items) here.now level image.old result image.new }
     ensures kept { scope.new ≡ scope.old }
 {
-    let inner = open(text, *here, level.depth)?;
+    let inner = here.open(text, level.depth)?;
     let within = expression(
         text,
         functions,
@@ -281,7 +270,7 @@ pub(crate) fn bracketed<'t>(
         scope,
         image,
     )?;
-    expect(text, within, Word::Close)
+    within.expect(text, Kind::Word(Word::Close))
 }
 
 // A variable or a call.
@@ -300,9 +289,9 @@ pub(crate) fn named<'t>(
 {
     let name = spelling(text, here.look);
     let place = here.look.start;
-    let after = construct(text, *here)?;
-    if is(after.look.kind, Word::Open) {
-        let inner = open(text, after, level.depth)?;
+    let after = here.construct(text)?;
+    if after.look.kind == Kind::Word(Word::Open) {
+        let inner = after.open(text, level.depth)?;
         let given = arguments(text, functions, &inner, level, scope, image)?;
         let out = call(functions, name, place, given.count, given.next.out, image);
         Ok(Spot { out, ..given.next })
@@ -332,8 +321,8 @@ pub(crate) fn arguments<'t>(
     };
     let mut so_far = expression(text, functions, here, deeper, scope, image)?;
     let mut count: usize = 1;
-    while is(so_far.look.kind, Word::Comma) {
-        let next = expect(text, so_far, Word::Comma)?;
+    while so_far.look.kind == Kind::Word(Word::Comma) {
+        let next = so_far.expect(text, Kind::Word(Word::Comma))?;
         let deeper = Level {
             held: level.held + count,
             ..deeper
@@ -341,6 +330,6 @@ pub(crate) fn arguments<'t>(
         so_far = expression(text, functions, &next, deeper, scope, image)?;
         count += 1;
     }
-    let next = expect(text, so_far, Word::Close)?;
+    let next = so_far.expect(text, Kind::Word(Word::Close))?;
     Ok(Given { next, count })
 }

@@ -2,8 +2,10 @@
 #![tactic(auto)]
 
 mod base;
+mod chain;
 mod cursor;
 mod descent;
+mod instruction;
 mod names;
 mod output;
 mod passes;

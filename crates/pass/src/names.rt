@@ -8,11 +8,11 @@ ghost use Rattle.lexer.specs.Lexed.{Valid};
 ghost use Rattle.pass.specs.Known.{entered, in_force, spelled, slot_in, first_of, signed};
 ghost use Rattle.pass.specs.Outputs.{emitted, pushed, faulted};
 
-use crate::cursor::Output;
-use crate::output::{emit, push, unless, word};
+use crate::instruction::Instruction;
+use crate::output::Output;
 use arrayvec::ArrayVec;
 use lexer::Lexeme;
-use recipe::Cause;
+use recipe::{Cause, Refusal};
 
 // A function: its name, how many parameters it has, and the index of its first word.
 #[derive(Clone, Copy, PartialEq, Eq, Debug, Default)]
@@ -83,13 +83,13 @@ pub(crate) fn load(
     ensures written { image.new ≡ slice_set image.old out.at (VAR (find (in_force scope.now) name.now)) }
 {
     match slot_of(scope, name) {
-        Some(slot) => push(out, held, image, word(1, slot as u32)),
-        None => push(
-            unless(false, out, Cause::UnknownName, place),
-            held,
-            image,
-            word(1, 0),
-        ),
+        Some(slot) => out.push(held, image, Instruction::Variable(slot)),
+        None => out
+            .note(Some(Refusal {
+                cause: Cause::UnknownName,
+                place,
+            }))
+            .push(held, image, Instruction::Variable(0)),
     }
 }
 
@@ -105,12 +105,15 @@ pub(crate) fn channel(
     ensures made { result ≡ pushed held (faulted out (fault_unless (nat_le 1 value && nat_le value 64) place Channel)) }
     ensures written { image.new ≡ slice_set image.old out.at (WEIGH value) }
 {
-    push(
-        unless(1 <= value && value <= 64, out, Cause::Channel, place),
-        held,
-        image,
-        word(8, value),
-    )
+    let fault = if 1 <= value && value <= 64 {
+        None
+    } else {
+        Some(Refusal {
+            cause: Cause::Channel,
+            place,
+        })
+    };
+    out.note(fault).push(held, image, Instruction::Weigh(value))
 }
 
 // The word of a call of a function, which has to take as many arguments.
@@ -126,17 +129,20 @@ pub(crate) fn call(
     ensures made { result ≡ emitted (faulted out (call_faults (arity_of (signed functions.now) name.now) given place)) }
     ensures written { image.new ≡ slice_set image.old out.at (CALL given (find (entered functions.now) name.now)) }
 {
-    let arity = given as u32 * 65536;
     match function_of(functions, name) {
-        Some(f) => emit(
-            unless(f.arity == given, out, Cause::ArgumentCount, place),
-            image,
-            word(6, arity + f.target as u32),
-        ),
-        None => emit(
-            unless(false, out, Cause::UnknownName, place),
-            image,
-            word(6, arity),
-        ),
+        Some(f) => {
+            let fault = (f.arity != given).then_some(Refusal {
+                cause: Cause::ArgumentCount,
+                place,
+            });
+            out.note(fault)
+                .emit(image, Instruction::Call(given as u16, f.target))
+        }
+        None => out
+            .note(Some(Refusal {
+                cause: Cause::UnknownName,
+                place,
+            }))
+            .emit(image, Instruction::Call(given as u16, 0)),
     }
 }

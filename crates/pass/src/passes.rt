@@ -4,10 +4,11 @@ ghost use Rattle.pass.specs.Outputs.{over_with};
 ghost use Rattle.pass.specs.Reads.{Fit, Takes, GoesHead, IsName, Limited, DeclarationsOn, GoesDeclaration, GoesDeclarations, IsPass, GoesRecipe};
 
 use crate::base::Base;
-use crate::cursor::{Level, Output, Spot, expect, is, name};
+use crate::cursor::{Level, Spot};
 use crate::descent::expression;
+use crate::instruction::Instruction;
 use crate::names::{Function, Scope, Variable, function_of, slot_of, spelling};
-use crate::output::{emit, unless, word};
+use crate::output::Output;
 use arrayvec::ArrayVec;
 use lexer::{Kind, next_token};
 use recipe::{Cause, Refusal, Word};
@@ -47,22 +48,22 @@ pub(crate) fn parameter<'t>(
     requires { (Fit text.now here) × (length scope.old.items ≤ 8) }
     ensures { Takes text.now here scope.old.items result scope.new.items }
 {
-    let after = name(text, here)?;
+    let after = here.expect(text, Kind::Name)?;
     let slot = scope.len();
     if slot < 8 {
         let name = spelling(text, here.look);
-        let fresh = slot_of(scope, name).is_none();
-        let out = unless(fresh, after.out, Cause::DeclaredTwice, here.look.start);
+        let again = slot_of(scope, name).is_some();
+        let fault = again.then_some(here.refused(Cause::DeclaredTwice));
         scope.push(Variable {
             name,
             slot: slot as u16,
         });
-        Ok(Spot { out, ..after })
-    } else {
-        Err(Refusal {
-            cause: Cause::Parameters,
-            place: here.look.start,
+        Ok(Spot {
+            out: after.out.note(fault),
+            ..after
         })
+    } else {
+        Err(here.refused(Cause::Parameters))
     }
 }
 
@@ -76,18 +77,18 @@ pub(crate) fn head<'t>(
     requires { (Fit text.now here.now) × (here.now.out.at + 2 ≤ 2 * here.now.count + 4100) }
     ensures { GoesHead text.now functions.now here.now image.old result image.new }
 {
-    let first = expect(text, *here, Word::Open)?;
+    let first = here.expect(text, Kind::Word(Word::Open))?;
     let mut scope = Scope::new();
     let mut so_far = parameter(text, first, &mut scope)?;
-    while is(so_far.look.kind, Word::Comma) {
-        let next = expect(text, so_far, Word::Comma)?;
+    while so_far.look.kind == Kind::Word(Word::Comma) {
+        let next = so_far.expect(text, Kind::Word(Word::Comma))?;
         so_far = parameter(text, next, &mut scope)?;
     }
-    let close = expect(text, so_far, Word::Close)?;
-    let equals = expect(text, close, Word::Equals)?;
+    let close = so_far.expect(text, Kind::Word(Word::Close))?;
+    let equals = close.expect(text, Kind::Word(Word::Equals))?;
     let arity = scope.len();
     let body = Spot {
-        out: emit(equals.out, image, word(10, arity as u32)),
+        out: equals.out.emit(image, Instruction::Function(arity as u16)),
         ..equals
     };
     let level = Level {
@@ -97,7 +98,7 @@ pub(crate) fn head<'t>(
     let last = expression(text, functions, &body, level, &mut scope, image)?;
     Ok(Declared {
         next: Spot {
-            out: emit(last.out, image, word(7, 0)),
+            out: last.out.emit(image, Instruction::Back),
             ..last
         },
         arity,
@@ -118,14 +119,11 @@ pub(crate) fn function_name(text: &[u8], here: Spot, before: usize) -> Result<Sp
     requires { (Fit text.now here) × (before ≤ 32) }
     ensures { Limited text.now here before result }
 {
-    let after = name(text, here)?;
+    let after = here.expect(text, Kind::Name)?;
     if before < 32 {
         Ok(after)
     } else {
-        Err(Refusal {
-            cause: Cause::Functions,
-            place: here.look.start,
-        })
+        Err(here.refused(Cause::Functions))
     }
 }
 
@@ -152,13 +150,13 @@ pub(crate) fn declaration<'t>(
     let here = heads.next;
     let after = function_name(text, here, heads.functions.len())?;
     let name = spelling(text, here.look);
-    let fresh = function_of(&heads.functions, name).is_none();
+    let again = function_of(&heads.functions, name).is_some();
     let own = Output {
         peak: 0,
         ..after.out
     };
     let named = Spot {
-        out: unless(fresh, own, Cause::DeclaredTwice, here.look.start),
+        out: own.note(again.then_some(here.refused(Cause::DeclaredTwice))),
         ..after
     };
     let inside = head(text, functions, &named, image)?;
@@ -191,7 +189,7 @@ pub(crate) fn declarations<'t>(
         },
     };
     let mut heads = Heads {
-        next: expect(text, start, Word::Let)?,
+        next: start.expect(text, Kind::Word(Word::Let))?,
         over: None,
         functions: ArrayVec::new(),
     };
@@ -226,7 +224,7 @@ pub fn over<'t>(
     ensures { GoesRecipe text.now functions.now base.index image.old result image.new }
 {
     let heads = declarations(text, functions, base, image)?;
-    let within = expect(text, heads.next, Word::In)?;
+    let within = heads.next.expect(text, Kind::Word(Word::In))?;
     let main = Spot {
         out: Output {
             at: 1,
@@ -240,12 +238,9 @@ pub fn over<'t>(
     let last = expression(text, functions, &main, level, &mut scope, image)?;
     match last.look.kind {
         Kind::End => {
-            let out = emit(last.out, image, word(7, 0));
+            let out = last.out.emit(image, Instruction::Back);
             Ok(pass_of(heads, out))
         }
-        _ => Err(Refusal {
-            cause: Cause::Grammar,
-            place: last.look.start,
-        }),
+        _ => Err(last.refused(Cause::Grammar)),
     }
 }

@@ -1,10 +1,11 @@
 use Rattle.std.proofs.Common.{◌+◌, ◌≤◌, length, refl, ap, ◌∙◌, arith, rules}
 use Rattle.recipe.specs.declared.Word.TheVariants.{Open, Comma, Let, Ifp}
+use Rattle.lexer.specs.declared.Kind.TheVariants.{Word as WordKind}
+use Rattle.std.proofs.lemmas.Result.{MatchResult-weaker, err_from_is_err_and}
 use Rattle.arrayvec.specs.ArrayVec.{ArrayVec}
 use Rattle.pass.specs.declared.names.Variable.{Variable}
-use Rattle.std.proofs.lemmas.Result.{MatchResult-weaker, err_from_is_err_and}
 use Rattle.pass.specs.Known.{ident}
-use Rattle.pass.specs.Outputs.{emitted}
+use Rattle.pass.specs.Outputs.{emitted, word_for}
 use Rattle.pass.proofs.Lookups.{inner_env, put_back}
 use Rattle.pass.specs.Reads.{ahead}
 use Rattle.pass.proofs.Steps.{known_token, known_ahead, other, arguments_more, arguments_more_bad, arguments_done, arguments_bad, number_read, name_read, call_read, bracket_read, bracket_bad, product_more, product_more_bad, product_full, product_done, sum_more, sum_more_bad, sum_full, sum_done, let_read, let_bad, ifp_read, ifp_bad, ifp_else_bad, ifp_first_bad, no_let_ifp, not_additive, not_multiplicative}
@@ -65,7 +66,7 @@ arguments-returns-in_err-next-2 t c =
     let r = c.in_err-next-2.ensures in
     let p = err_from_is_err_and c.from_residual-in_err-next-2.result c.from_residual-in_err-next-2.ensures.1 in
     record {
-      goes = rw (p.1, p.2, r.0.0, r.0.1) (arguments_bad (length text) i.read (other text Comma l.kind l.start l.end c.loop-level-test.ensures) r.1);
+      goes = rw (p.1, p.2, r.0.0, r.0.1) (arguments_bad (length text) i.read (other text Comma l.kind l.start l.end (grind arith)) r.1);
       kept = c.loop-level.invariant.1 ∙ s.kept;
     }
 
@@ -100,7 +101,7 @@ atom-returns-in_ok-after-in-Number t c =
       goes = record {
         on = further c.requires.0 a.0.fit.0 a.0.fit.1 a.0.fit.3 a.0.far (omega (arith, a.1)) (omega (arith, a.1, at_of c.push.ensures.made, at_of a.0.out));
         read = number_read (length text) _ d a.1 a.0.fit.1;
-        made = from a.0.out (made_num _ c.push.ensures.made c.push.ensures.written c.word.ensures);
+        made = from a.0.out (made_num _ c.push.ensures.made c.push.ensures.written refl);
       };
       kept = refl;
     }
@@ -136,7 +137,7 @@ binding-returns t c =
             (omega (arith, e.2, n.1, q.1, v.on.more, w.1, r.on.more))
             (omega (arith, e.2, n.1, q.1, at_of o, v.on.slow, w.1, at_of w.0.out, r.on.slow, at_of c.emit.ensures.made));
         read = let_read (length text) x d e.0 e.2 e.1.fit.1 n.0.token q.0.token (q.1 ∙ n.1) v.read w.0.token v.on.fit.1 w.1 r.read;
-        made = made_let x (from o v.made) (from w.0.out (knowing i r.made)) c.emit.ensures.made c.emit.ensures.written c.word.ensures;
+        made = made_let x (from o v.made) (from w.0.out (knowing i r.made)) c.emit.ensures.made c.emit.ensures.written refl;
       };
       kept = put_back _ k c.push.ensures.items c.in_ok-last.ensures.kept c.len-old.ensures.value c.drop-inner-2.ensures;
     }
@@ -230,7 +231,7 @@ choice-returns t c =
             (omega (arith, e.2, v.on.more, h.1, y.on.more, w.1, r.on.more))
             (omega (arith, e.2, at_of e.1.out, v.on.slow, h.1, at_of o₁, y.on.slow, w.1, at_of o₂, r.on.slow));
         read = ifp_read (length text) d e.0 e.2 e.1.fit.1 v.read h.0.token v.on.fit.1 h.1 y.read w.0.token y.on.fit.1 w.1 r.read;
-        made = made_ifp (from e.1.out v.made) o₁ y.made o₂ c.put.ensures h.0.out c.word.ensures r.made c.put-2.ensures w.0.out c.word-2.ensures;
+        made = made_ifp (from e.1.out v.made) o₁ y.made o₂ c.put.ensures h.0.out refl r.made c.put-2.ensures w.0.out refl;
       };
       kept = c.in_ok-last.ensures.kept ∙ k₂;
     }
@@ -251,14 +252,14 @@ choice-returns-in_err-last t c =
       kept = c.in_err-last.ensures.kept ∙ (c.in_ok-other.ensures.kept ∙ c.in_ok-then.ensures.kept);
     }
 
-pub expression-returns-else-is-2 : goal.expression-returns-else-is-2
-expression-returns-else-is-2 t c =
+pub expression-returns-in_default : goal.expression-returns-in_default
+expression-returns-in_default t c =
     let text = c.args.text.now in
     let n = c.args.here.now.count in
     let ts = ahead text c.args.here.now in
     let l = c.args.here.now.look in
-    let a = other text Let l.kind l.start l.end c.if-is.ensures in
-    let b = other text Ifp l.kind l.start l.end c.if-is-2.ensures in
+    let a = other text Let l.kind l.start l.end (grind arith) in
+    let b = other text Ifp l.kind l.start l.end (grind arith) in
     record {
       goes = MatchResult-weaker c.sum.result c.sum.ensures.goes
           (λ s r. record { on = r.on; read = record { tree = r.read.tree; goes = λ k e. no_let_ifp (length text) ts n k a b ∙ r.read.goes k e }; made = r.made })
@@ -277,7 +278,7 @@ named-returns-in_ok-given t c =
     let g = c.in_ok-given.ensures.goes in
     let r = g.through in
     let d = known_token text l.start l.end c.requires.1.1 a.0.token in
-    let e = known_token text m.start m.end c.if-is.ensures i.1.token in
+    let e = known_token text {k' = WordKind Open} m.start m.end (grind arith) i.1.token in
     let o = i.1.out ∙ a.0.out in
     record {
       goes = record {
@@ -289,9 +290,9 @@ named-returns-in_ok-given t c =
       kept = c.in_ok-given.ensures.kept;
     }
 
-pub named-returns-else-is : goal.named-returns-else-is
+pub named-returns-else-eq : goal.named-returns-else-eq
 unfolding name_read
-named-returns-else-is t c =
+named-returns-else-eq t c =
     let text = c.args.text.now in
     let l = c.args.here.now.look in
     let a = c.in_ok-after.ensures in
@@ -300,7 +301,7 @@ named-returns-else-is t c =
     record {
       goes = record {
         on = further c.requires.0 a.0.fit.0 a.0.fit.1 a.0.fit.3 a.0.far (omega (arith, a.1)) (omega (arith, a.1, at_of c.load-out.ensures.made, at_of a.0.out));
-        read = name_read (length text) _ d a.1 a.0.fit.1 (other text Open m.kind m.start m.end c.if-is.ensures);
+        read = name_read (length text) _ d a.1 a.0.fit.1 (other text Open m.kind m.start m.end (grind arith));
         made = from a.0.out (made_var (ident text l) (rw (c.spelling-name.ensures, c.deref.ensures.0) at c.load-out.ensures.made) (rw (c.spelling-name.ensures, c.deref.ensures.0) at c.load-out.ensures.written));
       };
       kept = refl;
@@ -329,7 +330,7 @@ product-loop-level-preserved t c =
             record {
               on = on;
               read = product_more (length text) i.read (known_token text l.start l.end o.1 n.0.token) o.2 n.1 n.0.fit.1 r.read;
-              made = made_op o.0 i.made (from n.0.out r.made) c.emit.ensures.made c.emit.ensures.written (c.operator-joining.ensures o.0 o.1);
+              made = made_op o.0 i.made (from n.0.out r.made) c.emit.ensures.made c.emit.ensures.written (ap word_for (c.operator-joining.ensures o.0 o.1));
             },
       ),
       c.in_ok-read.ensures.kept ∙ c.loop-level.invariant.1,
@@ -398,7 +399,7 @@ sum-loop-level-preserved t c =
             record {
               on = on;
               read = sum_more (length text) i.read (known_token text l.start l.end o.1 n.0.token) o.2 n.1 n.0.fit.1 r.read;
-              made = made_op o.0 i.made (from n.0.out r.made) c.emit.ensures.made c.emit.ensures.written (c.operator-joining.ensures o.0 o.1);
+              made = made_op o.0 i.made (from n.0.out r.made) c.emit.ensures.made c.emit.ensures.written (ap word_for (c.operator-joining.ensures o.0 o.1));
             },
       ),
       c.in_ok-read.ensures.kept ∙ c.loop-level.invariant.1,

@@ -2,6 +2,7 @@ use Rattle.std.proofs.Common.{set, is_some, sym, ap, ◌∙◌}
 use Rattle.recipe.specs.Names.{fault_unless}
 use Rattle.recipe.specs.Image.{VAR}
 use Rattle.recipe.specs.declared.cause.Cause.TheVariants.{UnknownName}
+use Rattle.pass.specs.declared.output.Output.{Output}
 use Rattle.pass.specs.Known.{in_force}
 use Rattle.pass.specs.Outputs.{pushed, faulted}
 use Rattle.pass.proofs.Lookups.{among_slot, slot_or, find_slot}
@@ -14,7 +15,7 @@ returns-in-Some c =
     let slot = sym c.in-Some.ensures in
     record {
       made = c.push.ensures.made ∙ ap (λ t. pushed c.args.held (faulted c.args.out (fault_unless t c.args.place UnknownName))) (sym (among_slot Γ x ∙ ap is_some slot));
-      written = c.push.ensures.written ∙ ap (set c.args.image.now c.args.out.at) (c.word.ensures ∙ ap VAR (sym (find_slot Γ x ∙ ap slot_or slot)));
+      written = c.push.ensures.written ∙ ap (set c.args.image.now c.args.out.at) (ap VAR (sym (find_slot Γ x ∙ ap slot_or slot)));
     }
 
 pub returns-in-None : goal.returns-in-None
@@ -22,8 +23,8 @@ returns-in-None c =
     let Γ = in_force c.args.scope.now in
     let x = c.args.name.now in
     let slot = sym c.in-None.ensures in
-    let noted = c.unless.ensures in
+    let noted = c.note.ensures in
     record {
       made = c.push-in-None.ensures.made ∙ (ap (pushed c.args.held) noted ∙ ap (λ t. pushed c.args.held (faulted c.args.out (fault_unless t c.args.place UnknownName))) (sym (among_slot Γ x ∙ ap is_some slot)));
-      written = c.push-in-None.ensures.written ∙ (ap (λ o. set c.args.image.now o.at c.word-in-None.result) noted ∙ ap (set c.args.image.now c.args.out.at) (c.word-in-None.ensures ∙ ap VAR (sym (find_slot Γ x ∙ ap slot_or slot))));
+      written = c.push-in-None.ensures.written ∙ (ap (λ (o : Output). set c.args.image.now o.at (VAR 0)) noted ∙ ap (set c.args.image.now c.args.out.at) (ap VAR (sym (find_slot Γ x ∙ ap slot_or slot))));
     }

@@ -57,6 +57,7 @@ returns c =
       slow = omega (arith, i.same, w.1, q.1, at_of o, at_of i.made.out, fn, back, r.on.slow);
       fit = (r.on.fit.0, r.on.fit.1, omega (arith, c.requires.1, i.same, w.1, q.1, at_of o, at_of i.made.out, fn, back, r.on.slow), r.on.fit.3);
       read = record { names = i.read.names; tree = r.read.tree; goes = (head_read (length text) i.read w.0.token q.0.token i.fit.1 (q.1 ∙ w.1) r.read).goes };
-      made = made_head (env c.args.functions.now c.loop-so_far.scope.items) c.args.image.now i.read.names c.loop-so_far.scope.items c.len-arity.result r.read.tree i.made o refl n c.emit.ensures.made c.emit.ensures.written c.word.ensures r.made c.emit-2.ensures.made c.emit-2.ensures.written c.word-2.ensures;
+      made = made_head (env c.args.functions.now c.loop-so_far.scope.items) c.args.image.now i.read.names c.loop-so_far.scope.items c.len-arity.result r.read.tree
+          i.made o refl n c.emit.ensures.made c.emit.ensures.written refl r.made c.emit-2.ensures.made c.emit-2.ensures.written refl;
       counted = n;
     }

@@ -37,7 +37,7 @@ returns-in-End c =
     let ds = all d.read.declared in
     let e = r.read.tree in
     let m = main_made c.args.base.index c.args.image.now ds e (ap (env c.args.functions.now) c.new-scope.ensures) refl refl (fault_of w.0.out ∙ d.made.fault) d.made.written
-    r.made c.emit-out.ensures.made c.emit-out.ensures.written c.word.ensures in
+    r.made c.emit-out.ensures.made c.emit-out.ensures.written refl in
     let q = c.pass_of.ensures in
     record {
       declared = d.read.declared;
