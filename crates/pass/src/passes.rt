@@ -7,7 +7,7 @@ ghost use Rattle.pass.specs.Outputs.{over_with};
 ghost use Rattle.pass.specs.Reads.{Fit, Takes, GoesHead, IsName, Limited, added, DeclarationsOn, GoesDeclaration, GoesDeclarations, pass_of, GoesRecipe, AreDeclared, GoesOver};
 
 use crate::cursor::{Level, Spot};
-use crate::descent::expression;
+use crate::descent::Descent;
 use crate::instruction::Instruction;
 use crate::names::{Function, Scope, Variable, function_of, slot_of, with};
 use crate::output::Output;
@@ -120,7 +120,8 @@ pub(crate) fn head(
         depth: 0,
         held: arity,
     };
-    let last = expression(text, functions, &body, level, &mut scope, image)?;
+    let descent = Descent { text, functions };
+    let last = descent.expression(&body, level, &mut scope, image)?;
     Ok(Declared {
         next: Spot {
             out: last.out.emit(image, Instruction::Back),
@@ -298,7 +299,8 @@ pub(crate) fn run(
     };
     let mut empty = no_names();
     let level = Level { depth: 0, held: 0 };
-    let last = expression(text, functions, &main, level, &mut empty, image)?;
+    let descent = Descent { text, functions };
+    let last = descent.expression(&main, level, &mut empty, image)?;
     match last.look.kind {
         Kind::End => {
             let out = last.out.emit(image, Instruction::Back);
