@@ -325,21 +325,24 @@ module _ (len : ℕ) where
   let_valued n {m = m} {q = q} {ws = ws} x a g c h b b' i k e =
       let_begins n a g c h k e ∙ (ap (reading len (let_name k) m) b ∙ (ap (reading len (let_equals x k) m) b' ∙ (deep (depth k + 1) m q _ (omega arith) h ∙ recount _ ws i)))
 
-  pub let_on : (n : ℕ) {d m m₁ m₂ m₃ p q r : ℕ} {ts us vs ws xs ys : List Token} (x : Ident) → ts ≡ TheWord p Let ∷ us → d < 32 → m ≡ n + 1 → m ≤ 2000 → us ≡ Name x ∷ vs → vs ≡ TheWord q Equals ∷ ws → m₁ ≡ m →
+  pub let_on : (n : ℕ) {d m m₁ m₂ m₃ p q r : ℕ} {ts us vs ws xs ys : List Token} (x : Ident) → ts ≡ TheWord p Let ∷ us → d < 32 → m ≡ n + 1 → m ≤ 2000 →
+      us ≡ Name x ∷ vs → vs ≡ TheWord q Equals ∷ ws → m₁ ≡ m →
       (v : Read an_expr len (d + 1) m₁ ws m₂ xs) → xs ≡ TheWord r In ∷ ys → m₂ ≤ 2000 → m₃ ≡ m₂ →
       (k : Context) → depth k ≡ d → reading len (want k) n ts ≡ reading len (want (let_body x v.tree k)) m₃ ys
   let_on n {m₂ = m₂} {r = r} {ys = ys} x a g c h b b' i v o h' i' k e =
       let_valued n x a g c h b b' i k e ∙ (v.goes (let_value x k) (ap (λ y. y + 1) e)
       ∙ (ap (reading len (after_expr v.tree (let_value x k)) m₂) o ∙ (deep (depth k + 1) m₂ r _ (omega arith) h' ∙ recount _ ys i')))
 
-  unfoldable pub let_read : {d n m m₁ m₂ m₃ m₄ p q r : ℕ} {ts us vs ws xs ys zs : List Token} (x : Ident) → ts ≡ TheWord p Let ∷ us → d < 32 → m ≡ n + 1 → m ≤ 2000 → us ≡ Name x ∷ vs → vs ≡ TheWord q Equals ∷ ws → m₁ ≡ m →
+  unfoldable pub let_read : {d n m m₁ m₂ m₃ m₄ p q r : ℕ} {ts us vs ws xs ys zs : List Token} (x : Ident) → ts ≡ TheWord p Let ∷ us → d < 32 → m ≡ n + 1 → m ≤ 2000 →
+      us ≡ Name x ∷ vs → vs ≡ TheWord q Equals ∷ ws → m₁ ≡ m →
       Read an_expr len (d + 1) m₁ ws m₂ xs → xs ≡ TheWord r In ∷ ys → m₂ ≤ 2000 → m₃ ≡ m₂ → Read an_expr len (d + 1) m₃ ys m₄ zs → Read an_expr len d n ts m₄ zs
   let_read {n = n} {m₄ = m₄} {zs = zs} x a g c h b b' i v o h' i' w = record {
     tree = let_in x v.tree w.tree;
     goes = λ k e. let_on n x a g c h b b' i v o h' i' k e ∙ (w.goes (let_body x v.tree k) (ap (λ y. y + 1) e) ∙ let_over x v.tree w.tree k m₄ zs);
   }
 
-  pub let_bad : {d n m m₁ m₂ m₃ p q r c' s : ℕ} {ts us vs ws xs ys : List Token} (x : Ident) → ts ≡ TheWord p Let ∷ us → d < 32 → m ≡ n + 1 → m ≤ 2000 → us ≡ Name x ∷ vs → vs ≡ TheWord q Equals ∷ ws → m₁ ≡ m →
+  pub let_bad : {d n m m₁ m₂ m₃ p q r c' s : ℕ} {ts us vs ws xs ys : List Token} (x : Ident) → ts ≡ TheWord p Let ∷ us → d < 32 → m ≡ n + 1 → m ≤ 2000 →
+      us ≡ Name x ∷ vs → vs ≡ TheWord q Equals ∷ ws → m₁ ≡ m →
       Read an_expr len (d + 1) m₁ ws m₂ xs → xs ≡ TheWord r In ∷ ys → m₂ ≤ 2000 → m₃ ≡ m₂ → BadFrom from_expr len (d + 1) m₃ ys c' s → BadFrom from_expr len d n ts c' s
   let_bad {n = n} x a g c h b b' i v o h' i' w = record { stops = λ k e. let_on n x a g c h b b' i v o h' i' k e ∙ w.stops (let_body x v.tree k) (ap (λ y. y + 1) e) }
 
@@ -348,7 +351,8 @@ module _ (len : ℕ) where
       reading len (want k) n ts ≡ reading len (want (if_test k)) m us
   ifp_begins n {p = p} {us = us} a g c h k e = ap (reading len (want k) n) a ∙ (deep (depth k + 1) (n + 1) p _ (omega arith) (omega arith) ∙ recount _ us c)
 
-  pub ifp_thenned : (n : ℕ) {d m m₁ m₂ p q : ℕ} {ts us vs ws : List Token} → ts ≡ TheWord p Ifp ∷ us → d < 32 → m ≡ n + 1 → m ≤ 2000 → (v : Read an_expr len (d + 1) m us m₁ vs) → vs ≡ TheWord q Then ∷ ws →
+  pub ifp_thenned : (n : ℕ) {d m m₁ m₂ p q : ℕ} {ts us vs ws : List Token} → ts ≡ TheWord p Ifp ∷ us → d < 32 → m ≡ n + 1 → m ≤ 2000 →
+      (v : Read an_expr len (d + 1) m us m₁ vs) → vs ≡ TheWord q Then ∷ ws →
       m₁ ≤ 2000 → m₂ ≡ m₁ → (k : Context) → depth k ≡ d → reading len (want k) n ts ≡ reading len (want (if_then v.tree k)) m₂ ws
   ifp_thenned n {m₁ = m₁} {q = q} {ws = ws} a g c h v b h' i k e =
       ifp_begins n a g c h k e ∙ (v.goes (if_test k) (ap (λ y. y + 1) e)
@@ -373,21 +377,24 @@ module _ (len : ℕ) where
         ifp_thenned n a g c h v b h' i k e ∙ (w.goes (if_then v.tree k) (ap (λ y. y + 1) e) ∙ no_else w.tree v.tree k m₃ xs o);
   }
 
-  pub ifp_on : (n : ℕ) {d m m₁ m₂ m₃ m₄ p q r : ℕ} {ts us vs ws xs ys : List Token} → ts ≡ TheWord p Ifp ∷ us → d < 32 → m ≡ n + 1 → m ≤ 2000 → (v : Read an_expr len (d + 1) m us m₁ vs) → vs ≡ TheWord q Then ∷ ws →
+  pub ifp_on : (n : ℕ) {d m m₁ m₂ m₃ m₄ p q r : ℕ} {ts us vs ws xs ys : List Token} → ts ≡ TheWord p Ifp ∷ us → d < 32 → m ≡ n + 1 → m ≤ 2000 →
+      (v : Read an_expr len (d + 1) m us m₁ vs) → vs ≡ TheWord q Then ∷ ws →
       m₁ ≤ 2000 → m₂ ≡ m₁ → (w : Read an_expr len (d + 1) m₂ ws m₃ xs) → xs ≡ TheWord r Else ∷ ys → m₃ ≤ 2000 → m₄ ≡ m₃ →
       (k : Context) → depth k ≡ d → reading len (want k) n ts ≡ reading len (want (if_else v.tree w.tree k)) m₄ ys
   ifp_on n {m₃ = m₃} {r = r} {ys = ys} a g c h v b h' i w o j i' k e =
       ifp_thenned n a g c h v b h' i k e ∙ (w.goes (if_then v.tree k) (ap (λ y. y + 1) e)
       ∙ (ap (reading len (after_expr w.tree (if_then v.tree k)) m₃) o ∙ (deep (depth k + 1) m₃ r _ (omega arith) j ∙ recount _ ys i')))
 
-  unfoldable pub ifp_read : {d n m m₁ m₂ m₃ m₄ m₅ p q r : ℕ} {ts us vs ws xs ys zs : List Token} → ts ≡ TheWord p Ifp ∷ us → d < 32 → m ≡ n + 1 → m ≤ 2000 → Read an_expr len (d + 1) m us m₁ vs → vs ≡ TheWord q Then ∷ ws →
+  unfoldable pub ifp_read : {d n m m₁ m₂ m₃ m₄ m₅ p q r : ℕ} {ts us vs ws xs ys zs : List Token} → ts ≡ TheWord p Ifp ∷ us → d < 32 → m ≡ n + 1 → m ≤ 2000 →
+      Read an_expr len (d + 1) m us m₁ vs → vs ≡ TheWord q Then ∷ ws →
       m₁ ≤ 2000 → m₂ ≡ m₁ → Read an_expr len (d + 1) m₂ ws m₃ xs → xs ≡ TheWord r Else ∷ ys → m₃ ≤ 2000 → m₄ ≡ m₃ → Read an_expr len (d + 1) m₄ ys m₅ zs → Read an_expr len d n ts m₅ zs
   ifp_read {n = n} {m₅ = m₅} {zs = zs} a g c h v b h' i w o j i' y = record {
     tree = ifp v.tree w.tree y.tree;
     goes = λ k e. ifp_on n a g c h v b h' i w o j i' k e ∙ (y.goes (if_else v.tree w.tree k) (ap (λ y. y + 1) e) ∙ ifp_over v.tree w.tree y.tree k m₅ zs);
   }
 
-  pub ifp_bad : {d n m m₁ m₂ m₃ m₄ p q r c' s : ℕ} {ts us vs ws xs ys : List Token} → ts ≡ TheWord p Ifp ∷ us → d < 32 → m ≡ n + 1 → m ≤ 2000 → Read an_expr len (d + 1) m us m₁ vs → vs ≡ TheWord q Then ∷ ws →
+  pub ifp_bad : {d n m m₁ m₂ m₃ m₄ p q r c' s : ℕ} {ts us vs ws xs ys : List Token} → ts ≡ TheWord p Ifp ∷ us → d < 32 → m ≡ n + 1 → m ≤ 2000 →
+      Read an_expr len (d + 1) m us m₁ vs → vs ≡ TheWord q Then ∷ ws →
       m₁ ≤ 2000 → m₂ ≡ m₁ → Read an_expr len (d + 1) m₂ ws m₃ xs → xs ≡ TheWord r Else ∷ ys → m₃ ≤ 2000 → m₄ ≡ m₃ → BadFrom from_expr len (d + 1) m₄ ys c' s → BadFrom from_expr len d n ts c' s
   ifp_bad {n = n} a g c h v b h' i w o j i' y = record { stops = λ k e. ifp_on n a g c h v b h' i w o j i' k e ∙ y.stops (if_else v.tree w.tree k) (ap (λ y. y + 1) e) }
 
@@ -455,7 +462,8 @@ module _ (len : ℕ) where
   pub fits_not : (s p : ℕ) (v : Verdict Recipe) → 32 ≤ s → unless (cond (leb s 31) 0 7) p v ≡ wrong 7 p
   fits_not s p v h = rw (lt-leb s 31 (omega arith)) refl
 
-  unfoldable pub declarations_first : {m₁ m₂ p : ℕ} {ts us vs ws : List Token} (f : Ident) → ts ≡ TheWord p Let ∷ us → us ≡ Name f ∷ vs → m₁ ≡ 0 → ReadHead len m₁ vs m₂ ws → DeclarationsSoFar len ts 1 m₂ ws
+  unfoldable pub declarations_first : {m₁ m₂ p : ℕ} {ts us vs ws : List Token} (f : Ident) → ts ≡ TheWord p Let ∷ us → us ≡ Name f ∷ vs → m₁ ≡ 0 →
+      ReadHead len m₁ vs m₂ ws → DeclarationsSoFar len ts 1 m₂ ws
   declarations_first {vs = vs} f a b c h = record {
     declared = one_only (declare f h.names h.tree);
     sized = refl;

@@ -1,4 +1,4 @@
-use Rattle.std.proofs.Common.{◌+◌, ◌<◌, length, refl, ap, ◌∙◌, arith, rules}
+use Rattle.std.proofs.Common.{◌+◌, ◌<◌, length, ap, ◌∙◌, arith, rules}
 use Rattle.recipe.specs.declared.Word.TheVariants.{Open, Let, Ifp}
 use Rattle.lexer.specs.declared.Kind.TheVariants.{Word as WordKind}
 use Rattle.std.proofs.lemmas.Result.{MatchResult-weaker}
@@ -95,7 +95,7 @@ atom-returns-in_ok-after-in-Number t c =
       goes = record {
         on = further c.requires.0 c.in_ok-after-in-Number.after a.0.fit a.0.far (omega (arith, a.1)) _ (omega (arith, a.1, at_of c.push.ensures.made, at_of a.0.out));
         read = number_read (length c.args.self.now.text.now) _ d a.1 a.0.fit.1;
-        made = from a.0.out (made_num _ c.push.ensures.made c.push.ensures.written refl);
+        made = from a.0.out (made_num _ c.push.ensures.made c.push.ensures.written);
       };
       kept = kept_here c.requires.2;
     }
@@ -134,7 +134,7 @@ binding-returns t c =
         on = further c.requires.0.0 c.in_ok-last.last r.on.fit (omega (arith, e.0.far, n.0.far, q.0.far, v.on.far, w.0.far, r.on.far)) (omega (arith, e.1, n.1, q.1, v.on.more, w.1, r.on.more)) _
             (omega (arith, e.1, n.1, q.1, at_of o, v.on.slow, w.1, at_of w.0.out, r.on.slow, at_of c.emit.ensures.made));
         read = let_read (length text) x d i.0 e.1 e.0.fit.1 n.0.token q.0.token (q.1 ∙ n.1) v.read w.0.token v.on.fit.1 w.1 r.read;
-        made = made_let x (from o v.made) (from w.0.out (knowing known r.made)) c.emit.ensures.made c.emit.ensures.written refl;
+        made = made_let x (from o v.made) (from w.0.out (knowing known r.made)) c.emit.ensures.made c.emit.ensures.written;
       };
       kept = put_back _ k c.declare.ensures.count c.declare.ensures.names c.in_ok-last.ensures.kept c.drop-inner-2.ensures.count c.drop-inner-2.ensures.names;
     }
@@ -197,7 +197,7 @@ chain-loop-op-preserved t c =
             record {
               on = on;
               read = chain_more (length c.args.self.now.text.now) c.args.chain i.read (past_kind o.0 n.0) o.1 n.1 n.0.fit.1 r.read;
-              made = made_op c.in-Some.op i.made (from n.0.out r.made) c.emit.ensures.made c.emit.ensures.written refl;
+              made = made_op c.in-Some.op i.made (from n.0.out r.made) c.emit.ensures.made c.emit.ensures.written;
             },
       ),
       kept_on c.loop-op.invariant.1 c.in_ok-read.ensures.kept,
@@ -298,7 +298,7 @@ choice-returns t c =
         on = further c.requires.0.0 c.in_ok-last.last r.on.fit (omega (arith, e.0.far, v.on.far, h.0.far, y.on.far, w.0.far, r.on.far)) (omega (arith, e.1, v.on.more, h.1, y.on.more, w.1, r.on.more)) _
             (omega (arith, e.1, at_of e.0.out, v.on.slow, h.1, at_of o₁, y.on.slow, w.1, at_of o₂, r.on.slow));
         read = ifp_read (length text) (past_kind c.requires.1 e.0) i.0 e.1 e.0.fit.1 v.read h.0.token v.on.fit.1 h.1 y.read w.0.token y.on.fit.1 w.1 r.read;
-        made = made_ifp (from e.0.out v.made) o₁ y.made o₂ c.put.ensures h.0.out refl r.made c.put-2.ensures w.0.out refl;
+        made = made_ifp (from e.0.out v.made) o₁ y.made o₂ c.put.ensures h.0.out r.made c.put-2.ensures w.0.out;
       };
       kept = kept_on k₂ c.in_ok-last.ensures.kept;
     }
