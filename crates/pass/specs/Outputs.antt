@@ -4,9 +4,6 @@ use Rattle.recipe.specs.Grammar.{Expr, Arguments, Several, Declaration, declare}
 use Rattle.recipe.specs.Tokens.{Ident}
 use Rattle.recipe.specs.Names.{Signature, among, all, names_of, twice, declared_names, earliest, faults, faults_of, body_faults}
 use Rattle.recipe.specs.Image.{Bound, past, pasts, NUM, VAR, OP, OUT, UNLESS, GO, CALL, BACK, WEIGH, FN, words, arguments, slots, placed, past_all, bodies}
-use Rattle.recipe.specs.declared.Op.{Op}
-use Rattle.lexer.specs.declared.Kind.{Kind}
-use Rattle.lexer.specs.declared.Kind.TheVariants.{Operator as AnOperator}
 use Rattle.pass.specs.declared.instruction.Instruction.{Instruction}
 use Rattle.pass.specs.declared.instruction.Instruction.TheVariants.{Number, Variable, Operator, Out, Unless, Go, Call, Back, Weigh, Function}
 use Rattle.recipe.specs.Frames.{need, needs}
@@ -50,10 +47,6 @@ Holds (Call arity target) = arity < 4096
 Holds Back = Unit {0}
 Holds (Weigh channel) = channel ≤ 268435455
 Holds (Function arity) = Unit {0}
-
--- the instruction of an operator, where the token is one
-abbrev pub Operates : Instruction → Kind → Type 0
-Operates i k = (o : Op) → k ≡ AnOperator o → i ≡ Operator o
 
 -- From the output o and the image m a tree comes to o' and m', on a frame of h values.
 abbrev pub MadeOf : Type 0 → Type 1

@@ -1,13 +1,12 @@
 -- What the reading functions promise.
-use Rattle.std.specs.Prelude.{◌≡◌, ℕ, ◌+◌, ◌*◌, ◌<◌, ◌≤◌, ◌≢◌, Bool, true, false, ◌⊎◌, List, [], ◌∷◌, ◌++◌, length, Some, None, Option, Result, MatchResult, ◌==◌}
+use Rattle.std.specs.Prelude.{◌≡◌, ℕ, ◌+◌, ◌*◌, ◌<◌, ◌≤◌, ◌≢◌, false, ◌⊎◌, List, [], ◌∷◌, ◌++◌, length, Some, None, Option, Result, MatchResult, ◌==◌}
 use Rattle.std.proofs.Math.Option.{none, some}
 use Rattle.std.proofs.Math.Option as opt
 use Rattle.recipe.specs.declared.Op.{Op}
-use Rattle.recipe.specs.declared.Op.TheVariants.{Plus, Minus, Times, Over}
 use Rattle.recipe.specs.declared.Word.{Word as AWord}
 use Rattle.recipe.specs.Tokens.{Ident, Token, Number as ANumber, Name as AName, Operator as AnOperator, TheWord, Bad as ABad, Verdict, fine, wrong, tokens}
 use Rattle.recipe.specs.Grammar.{Expr, call, Arguments, one, more, JoinsProducts, JoinsAtoms, Several, one_only, and_then, Declaration, declare, recipe}
-use Rattle.recipe.specs.Machine.{code, Left, nothing, apply, Context, argument, in_body, State, start, head_open, head_next, want, operand, after_product, after_sum, after_expr}
+use Rattle.recipe.specs.Machine.{code, Left, nothing, left, apply, Context, argument, in_body, State, start, head_open, head_next, want, operand, after_product, after_sum, after_expr}
 use Rattle.recipe.specs.Theorem.{first_place}
 use Rattle.recipe.specs.Limits.{depth, reading, size}
 use Rattle.lexer.specs.Lexed.{rest, Valid, Small, token_of}
@@ -19,13 +18,16 @@ use Rattle.recipe.specs.Causes.{cause_number}
 use Rattle.recipe.specs.declared.cause.Cause.{Cause}
 use Rattle.recipe.specs.declared.cause.Cause.TheVariants.{Grammar, Nesting, Functions, Parameters as TooManyParameters, Constructs, Frame}
 use Rattle.pass.specs.declared.cursor.Level.{Level}
+use Rattle.pass.specs.declared.chain.Chain.{Chain}
+use Rattle.pass.specs.declared.chain.Chain.TheVariants.{Sum, Product}
 use Rattle.pass.specs.declared.descent.Given.{Given}
+use Rattle.pass.specs.declared.descent.Descent.{Descent}
 use Rattle.recipe.specs.Names.{count as argument_count}
 use Rattle.pass.specs.declared.names.Variable.{Variable}
 use Rattle.pass.specs.declared.output.Output.{Output}
 use Rattle.pass.specs.declared.passes.Declared.{Declared as ADeclared}
 use Rattle.pass.specs.declared.names.Function.{Function}
-use Rattle.pass.specs.Known.{Env, ident, in_force, spelled, signed, entered}
+use Rattle.pass.specs.Known.{Env, env, ident, in_force, spelled, signed, entered}
 use Rattle.recipe.specs.Image.{slots, past, past_all, words, entries, bodies, placed, BACK}
 use Rattle.recipe.specs.Frames.{recipe_frames}
 use Rattle.pass.specs.declared.passes.Heads.{Heads}
@@ -105,53 +107,25 @@ Counts text here r =
     MatchResult r (λ s. Past text here (the_token text here) s × (s.count ≡ here.count + 1))
     (λ e. (2000 ≤ here.count) × (e.cause ≡ Constructs) × (e.place ≡ here.look.start))
 
-abbrev pub Enters : List ℕ → Spot → ℕ → Result Spot Refusal → Type 0
-Enters text here d r =
-    MatchResult r (λ s. (d < 32) × Past text here (the_token text here) s × (s.count ≡ here.count + 1))
-    (λ e. (e.place ≡ here.look.start) × (((32 ≤ d) × (e.cause ≡ Nesting)) ⊎ ((d < 32) × (2000 ≤ here.count) × (e.cause ≡ Constructs))))
+-- One nesting more around an expression, and n values more before it.
+abbrev pub nested : Level → Level
+nested level = record { depth = level.depth + 1; held = level.held }
 
-abbrev pub Opens : List ℕ → Spot → ℕ → Result Spot Refusal → Type 0
-Opens text here d r =
-    MatchResult r (λ s. (d < 32) × Past text here (the_token text here) s × (s.count ≡ here.count))
-    (λ e. (e.place ≡ here.look.start) × (32 ≤ d) × (e.cause ≡ Nesting))
+abbrev pub holding : Level → ℕ → Level
+holding level n = record { depth = level.depth; held = level.held + n }
 
-abbrev pub Adds : Bool → Op → Type 0
-Adds true o = JoinsProducts o
-Adds false Plus = ⊥
-Adds false Minus = ⊥
-Adds false Times = Unit {0}
-Adds false Over = Unit {0}
+abbrev pub Nests : Level → Spot → Result Level Refusal → Type 0
+Nests level here r = MatchResult r (λ l. (level.depth < 32) × (l ≡ nested level)) (λ e. (32 ≤ level.depth) × (e ≡ refused_at here Nesting))
 
-abbrev pub Multiplies : Bool → Op → Type 0
-Multiplies true o = JoinsAtoms o
-Multiplies false Plus = Unit {0}
-Multiplies false Minus = Unit {0}
-Multiplies false Times = ⊥
-Multiplies false Over = ⊥
+-- `+` and `-` go on with a sum, `*` and `div` with a product.
+abbrev pub JoinsIn : Chain → Op → Type 0
+JoinsIn Sum o = JoinsProducts o
+JoinsIn Product o = JoinsAtoms o
 
-abbrev pub Additive : Bool → Kind → Type 0
-Additive true k = (o : Op) × (k ≡ Operator o) × JoinsProducts o
-Additive false (Number n) = Unit {0}
-Additive false Name = Unit {0}
-Additive false (Operator Plus) = ⊥
-Additive false (Operator Minus) = ⊥
-Additive false (Operator Times) = Unit {0}
-Additive false (Operator Over) = Unit {0}
-Additive false (Word v) = Unit {0}
-Additive false (Bad c) = Unit {0}
-Additive false End = Unit {0}
-
-abbrev pub Multiplicative : Bool → Kind → Type 0
-Multiplicative true k = (o : Op) × (k ≡ Operator o) × JoinsAtoms o
-Multiplicative false (Number n) = Unit {0}
-Multiplicative false Name = Unit {0}
-Multiplicative false (Operator Plus) = Unit {0}
-Multiplicative false (Operator Minus) = Unit {0}
-Multiplicative false (Operator Times) = ⊥
-Multiplicative false (Operator Over) = ⊥
-Multiplicative false (Word v) = Unit {0}
-Multiplicative false (Bad c) = Unit {0}
-Multiplicative false End = Unit {0}
+-- the operator of a token that goes on with a chain
+abbrev pub GoesOn : Chain → Kind → Option Op → Type 0
+GoesOn chain kind (Some o) = (kind ≡ Operator o) × JoinsIn chain o
+GoesOn chain kind None = (o : Op) → kind ≡ Operator o → JoinsIn chain o → ⊥
 
 -- What is read: the states that the machine goes from, and those that it goes to with the tree, wherever that stands in a nesting of d.
 abbrev pub From : Type 1
@@ -172,46 +146,65 @@ pub record BadFrom (from : From) (len d n : ℕ) (ts : List Token) (c p : ℕ) :
 abbrev pub from_expr : From
 from_expr d P = (k : Context) → depth k ≡ d → P (want k)
 
-abbrev pub from_sum : From
-from_sum d P = (k : Context) → depth k ≡ d → P (operand nothing nothing k)
-
-abbrev pub from_product : From
-from_product d P = (S : Left) (k : Context) → depth k ≡ d → P (operand S nothing k)
-
 abbrev pub from_atom : From
 from_atom d P = (S P' : Left) (k : Context) → depth k ≡ d → P (operand S P' k)
 
+-- The arguments of a call stand in one nesting more than the call, that of its bracket.
 abbrev pub from_call : From
-from_call d P = (S P' : Left) (f : Ident) (k : Context) → depth k ≡ d → P (want (argument S P' f none k))
+from_call d P = (S P' : Left) (f : Ident) (k : Context) → depth k + 1 ≡ d → P (want (argument S P' f none k))
 
 abbrev pub an_expr : Part Expr
 an_expr e d R = (k : Context) → depth k ≡ d → R (want k) (after_expr e k)
-
-abbrev pub a_sum : Part Expr
-a_sum e d R = (k : Context) → depth k ≡ d → R (operand nothing nothing k) (after_expr e k)
-
-abbrev pub a_product : Part Expr
-a_product e d R = (S : Left) (k : Context) → depth k ≡ d → R (operand S nothing k) (after_sum (apply S e) k)
 
 abbrev pub an_atom : Part Expr
 an_atom e d R = (S P : Left) (k : Context) → depth k ≡ d → R (operand S P k) (after_product S (apply P e) k)
 
 abbrev pub a_call : Part Arguments
-a_call es d R = (S P : Left) (f : Ident) (k : Context) → depth k ≡ d → R (want (argument S P f none k)) (after_product S (apply P (call f es)) k)
+a_call es d R = (S P : Left) (f : Ident) (k : Context) → depth k + 1 ≡ d → R (want (argument S P f none k)) (after_product S (apply P (call f es)) k)
 
--- Inside a loop: the arguments, the product or the sum so far.
+-- A chain begins where no operand of it has been read: a sum with no sum before it, a product in the sum S.
+abbrev pub begins : Chain → Left → Left
+begins Sum S = nothing
+begins Product S = S
+
+-- after a whole chain, where it may go on, and after an operator that goes on with it
+abbrev pub after_chain : Chain → Left → Expr → Context → State
+after_chain Sum S e k = after_expr e k
+after_chain Product S e k = after_sum (apply S e) k
+
+abbrev pub after_operand : Chain → Left → Expr → Context → State
+after_operand Sum S e k = after_sum e k
+after_operand Product S e k = after_product S e k
+
+abbrev pub after_operator : Chain → Left → Expr → Op → Context → State
+after_operator Sum S e o k = operand (left e o) nothing k
+after_operator Product S e o k = operand S (left e o) k
+
+abbrev pub from_chain : Chain → From
+from_chain chain d P = (S : Left) (k : Context) → depth k ≡ d → P (operand (begins chain S) nothing k)
+
+abbrev pub a_chain : Chain → Part Expr
+a_chain chain e d R = (S : Left) (k : Context) → depth k ≡ d → R (operand (begins chain S) nothing k) (after_chain chain S e k)
+
+-- Inside a loop: the chain so far, the arguments so far.
+abbrev pub chain_so_far : Chain → Part Expr
+chain_so_far chain e d R = (S : Left) (k : Context) → depth k ≡ d → R (operand (begins chain S) nothing k) (after_operand chain S e k)
+
 abbrev pub after_arguments : Left → Left → Ident → Arguments → Context → State
 after_arguments S P f (one e) k = after_expr e (argument S P f none k)
 after_arguments S P f (more es e) k = after_expr e (argument S P f (some es) k)
 
 abbrev pub arguments_so_far : Part Arguments
-arguments_so_far es d R = (S P : Left) (f : Ident) (k : Context) → depth k ≡ d → R (want (argument S P f none k)) (after_arguments S P f es k)
+arguments_so_far es d R = (S P : Left) (f : Ident) (k : Context) → depth k + 1 ≡ d → R (want (argument S P f none k)) (after_arguments S P f es k)
 
-abbrev pub product_so_far : Part Expr
-product_so_far e d R = (S : Left) (k : Context) → depth k ≡ d → R (operand S nothing k) (after_product S e k)
+-- The operands of a sum are products, those of a product atoms.
+abbrev pub from_operand : Chain → From
+from_operand Sum = from_chain Product
+from_operand Product = from_atom
 
-abbrev pub sum_so_far : Part Expr
-sum_so_far e d R = (k : Context) → depth k ≡ d → R (operand nothing nothing k) (after_sum e k)
+abbrev pub an_operand : Chain → Part Expr
+an_operand Sum = a_chain Product
+an_operand Product = an_atom
 
 -- Further on, by at most two words for each construct.
 pub record Further (text : List ℕ) (here s : Spot) : Type 0 where
@@ -229,6 +222,13 @@ pub record Through {Tree : Type 0} (part : Part Tree) (Makes : MadeOf Tree) (tex
 abbrev pub Refuses : From → List ℕ → Level → Spot → Refusal → Type 0
 Refuses from text level here e = BadFrom from (length text) level.depth here.count (ahead text here) (cause_number e.cause) e.place
 
+-- Where a descent may begin: at a spot of its text, with the variables in force.
+abbrev pub Ready : Descent → Spot → Level → List Variable → Type 0
+Ready d here level scope = Fit d.text.now here × Stands here level scope
+
+abbrev pub knows : Descent → List Variable → Env
+knows d scope = env d.functions.now scope
+
 -- The functions' promises.
 abbrev pub Goes : Part Expr → From → List ℕ → Env → Spot → Level → List ℕ → Result Spot Refusal → List ℕ → Type 0
 Goes part from text v here level m r m' = MatchResult r (λ s. Through part Made text v level here m s m') (λ e. Refuses from text level here e)
@@ -238,6 +238,10 @@ pub record Gives (part : Part Arguments) (text : List ℕ) (v : Env) (level : Le
   pub through : Through part MadeAll text v level here m s m'
   pub counted : n ≡ argument_count through.read.tree
   pub few : here.count + n ≤ s.count
+
+-- The same of a descent through a text, with the names that it knows.
+abbrev pub Descends : Part Expr → From → Descent → List Variable → Spot → Level → List ℕ → Result Spot Refusal → List ℕ → Type 0
+Descends part from d scope here level m r m' = Goes part from d.text.now (knows d scope) here level m r m'
 
 abbrev pub GoesCall : List ℕ → Env → Spot → Level → List ℕ → Result Given Refusal → List ℕ → Type 0
 GoesCall text v here level m r m' = MatchResult r (λ g. Gives a_call text v level here m g.next m' g.count) (λ e. Refuses from_call text level here e)
@@ -268,15 +272,6 @@ Takes text here scope r scope' =
     MatchResult r (λ s. Taken text here scope s scope')
     (λ e. (Stops text here e × NoName (ahead text here))
     ⊎ ((8 ≤ length scope) × (e.cause ≡ TooManyParameters) × (e.place ≡ here.look.start) × ((us : List Token) × (ahead text here ≡ AName (ident text here.look) ∷ us))))
-
-abbrev pub IsName : Bool → Kind → Type 0
-IsName true k = k ≡ Name
-IsName false (Number n) = Unit {0}
-IsName false Name = ⊥
-IsName false (Operator o) = Unit {0}
-IsName false (Word v) = Unit {0}
-IsName false (Bad c) = Unit {0}
-IsName false End = Unit {0}
 
 -- A declaration from its bracket on, with those before it; its names so far; the declarations so far.
 pub record ReadHead (len n : ℕ) (ts : List Token) (m : ℕ) (us : List Token) : Type 0 where
@@ -395,14 +390,6 @@ GoesDeclarations text functions base m r m' =
     MatchResult r
     (λ h. DeclarationsOn text h × DeclarationsMade text functions base m h m' × NoName (ahead text h.next))
     (λ e. reading (length text) start 0 (tokens text) ≡ wrong (cause_number e.cause) e.place)
-
--- What the declarations come to, up to the recipe's own `in`, and the main expression after it.
-pub record IsPass (h : Heads) (main : Output) (p : Pass) : Type 0 where
-  pub functions_end : p.past_functions ≡ h.next.out.at
-  pub main_end : p.past_main.index ≡ main.at
-  pub fault : p.fault ≡ main.fault
-  pub over : p.over ≡ over_with h.over main.peak h.next.look.start
-  pub functions : p.functions ≡ h.functions
 
 -- A frame that is too large, at its place.
 abbrev pub frame_verdict : Option ℕ → Verdict Unit

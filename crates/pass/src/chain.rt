@@ -1,55 +1,35 @@
-// The operators that go on with a sum or a product.
-ghost use Rattle.pass.specs.Outputs.{Operates};
-ghost use Rattle.pass.specs.Reads.{Adds, Multiplies, Additive, Multiplicative};
+// Sums and products: operands, joined by operators.
+ghost use Rattle.std.specs.Prelude.{◌↔◌, IsTrue};
+ghost use Rattle.pass.specs.Reads.{JoinsIn, GoesOn};
 
-use crate::instruction::Instruction;
 use lexer::Kind;
 use recipe::Op;
 
-pub(crate) fn adds(o: Op) -> bool
-    ensures { Adds result o }
-{
-    match o {
-        Op::Plus => true,
-        Op::Minus => true,
-        _ => false,
-    }
+// A sum joins products by + and -, a product joins atoms by * and div.
+#[derive(Clone, Copy, PartialEq, Eq, Debug)]
+pub(crate) enum Chain {
+    Sum,
+    Product,
 }
 
-pub(crate) fn multiplies(o: Op) -> bool
-    ensures { Multiplies result o }
-{
-    match o {
-        Op::Times => true,
-        Op::Over => true,
-        _ => false,
+impl Chain {
+    // Whether an operator joins its operands.
+    fn joins(self, op: Op) -> bool
+        ensures { IsTrue result ↔ JoinsIn self op }
+    {
+        match self {
+            Chain::Sum => matches!(op, Op::Plus | Op::Minus),
+            Chain::Product => matches!(op, Op::Times | Op::Over),
+        }
     }
-}
 
-pub(crate) fn additive(kind: Kind) -> bool
-    ensures { Additive result kind }
-{
-    match kind {
-        Kind::Operator(o) => adds(o),
-        _ => false,
-    }
-}
-
-pub(crate) fn multiplicative(kind: Kind) -> bool
-    ensures { Multiplicative result kind }
-{
-    match kind {
-        Kind::Operator(o) => multiplies(o),
-        _ => false,
-    }
-}
-
-// The instruction of an operator.
-pub(crate) fn operator(kind: Kind) -> Instruction
-    ensures { Operates result kind }
-{
-    match kind {
-        Kind::Operator(o) => Instruction::Operator(o),
-        _ => Instruction::Operator(Op::Plus),
+    // The operator that a token goes on with it by.
+    pub(crate) fn operator(self, kind: Kind) -> Option<Op>
+        ensures { GoesOn self kind result }
+    {
+        match kind {
+            Kind::Operator(op) if self.joins(op) => Some(op),
+            _ => None,
+        }
     }
 }

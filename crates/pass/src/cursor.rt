@@ -1,7 +1,8 @@
 // Where a pass stands: the token ahead of it, the constructs before it, and what their words come to.
-ghost use Rattle.std.specs.Prelude.{◌≡◌, ◌≤◌};
-ghost use Rattle.lexer.specs.Lexed.{IsToken};
-ghost use Rattle.pass.specs.Reads.{Fit, refused_at, Passes, Expects, Counts, Enters, Opens};
+ghost use Rattle.std.specs.Prelude.{◌≡◌, ◌+◌, ◌≤◌};
+ghost use Rattle.lexer.specs.Lexed.{IsToken, Valid};
+ghost use Rattle.pass.specs.Known.{ident};
+ghost use Rattle.pass.specs.Reads.{Fit, refused_at, Passes, Expects, Counts, Nests, holding};
 
 use crate::output::Output;
 use lexer::{Kind, Lexeme, next_token};
@@ -31,6 +32,14 @@ impl Spot {
             cause,
             place: self.look.start,
         }
+    }
+
+    // The bytes of the token.
+    pub(crate) fn spelling<'t>(self, text: &'t [u8]) -> &'t [u8]
+        requires { Valid text.now self.look }
+        ensures { result.now ≡ (ident text.now self.look).name }
+    {
+        &text[self.look.start..self.look.end]
     }
 
     // Past the token.
@@ -70,28 +79,31 @@ impl Spot {
             Err(self.refused(Cause::Constructs))
         }
     }
+}
 
-    // Past a `let` or an `ifp`, which nests.
-    pub(crate) fn enter(self, text: &[u8], depth: usize) -> Result<Spot, Refusal>
-        requires { (Fit text.now self) × ((depth ≤ 32) × (IsToken self.look.kind)) }
-        ensures { Enters text.now self depth result }
+impl Level {
+    // With one nesting more, which begins here.
+    pub(crate) fn deeper(self, here: &Spot) -> Result<Level, Refusal>
+        ensures { Nests self here.now result }
     {
-        if depth < 32 {
-            self.construct(text)
+        if self.depth < 32 {
+            Ok(Level {
+                depth: self.depth + 1,
+                ..self
+            })
         } else {
-            Err(self.refused(Cause::Nesting))
+            Err(here.refused(Cause::Nesting))
         }
     }
 
-    // Past the bracket of a call or of an expression, which nests.
-    pub(crate) fn open(self, text: &[u8], depth: usize) -> Result<Spot, Refusal>
-        requires { (Fit text.now self) × ((depth ≤ 32) × (IsToken self.look.kind)) }
-        ensures { Opens text.now self depth result }
+    // With more values held.
+    pub(crate) fn holding(self, more: usize) -> Level
+        requires { self.held + more ≤ 8192 }
+        ensures { result ≡ holding self more }
     {
-        if depth < 32 {
-            Ok(self.past(text))
-        } else {
-            Err(self.refused(Cause::Nesting))
+        Level {
+            held: self.held + more,
+            ..self
         }
     }
 }

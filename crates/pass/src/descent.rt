@@ -1,335 +1,288 @@
 // Expressions by recursive descent: one descent reads, judges the limits and says what the words come to.
-ghost use Rattle.std.specs.Prelude.{◌≡◌, ◌<◌};
-ghost use Rattle.pass.specs.Known.{env};
-ghost use Rattle.pass.specs.Reads.{Fit, Stands, Goes, an_expr, from_expr, a_sum, from_sum, a_product, from_product, an_atom, from_atom, GoesCall, AtKind};
+ghost use Rattle.std.specs.Prelude.{◌≡◌};
+ghost use Rattle.pass.specs.Reads.{Ready, Descends, an_expr, from_expr, a_chain, from_chain, an_operand, from_operand, an_atom, from_atom, knows, GoesCall, AtKind};
 ghost use Rattle.lexer.specs.declared.Kind.TheVariants.{Name as NameKind, Word as WordKind};
 ghost use Rattle.recipe.specs.declared.Word.TheVariants.{Let as LetWord, Ifp as IfpWord, Open as OpenWord, Weigh as WeighWord};
 
-use crate::chain::{additive, multiplicative, operator};
+use crate::chain::Chain;
 use crate::cursor::{Level, Spot};
 use crate::instruction::Instruction;
-use crate::names::{Function, Scope, Variable, Within, call, channel, load, spelling};
-use crate::output::put;
+use crate::names::{Function, Scope, Variable, Within, call, channel, load};
 use lexer::Kind;
 use recipe::{Cause, Refusal, Word};
 
+// A text, and the functions that its calls know.
+#[derive(Clone, Copy, PartialEq, Eq, Debug)]
+pub(crate) struct Descent<'t, 'f> {
+    pub(crate) text: &'t [u8],
+    pub(crate) functions: &'f [Function<'t>],
+}
+
 // The arguments of a call, and how many they are.
-#[derive(Clone, Copy)]
+#[derive(Clone, Copy, PartialEq, Eq, Debug)]
 pub(crate) struct Given {
     pub(crate) next: Spot,
     pub(crate) count: usize,
 }
 
-#[cycle(arguments_atom_binding_bracketed_choice_expression_named_product_sum)]
-pub(crate) fn expression<'t>(
-    text: &'t [u8],
-    functions: &[Function<'t>],
-    here: &Spot,
-    level: Level,
-    scope: &mut Scope<'t>,
-    image: &mut [u32],
-) -> Result<Spot, Refusal>
-    requires { (Fit text.now here.now) × (Stands here.now level scope.old.items) }
-    ensures goes { Goes an_expr from_expr text.now (env functions.now scope.old.items) here.now level image.old result image.new }
-    ensures kept { scope.new ≡ scope.old }
-{
-    match here.look.kind {
-        Kind::Word(Word::Let) => binding(text, functions, here, level, scope, image),
-        Kind::Word(Word::Ifp) => choice(text, functions, here, level, scope, image),
-        _ => sum(text, functions, here, level, scope, image),
-    }
-}
-
-// A let expression: the value of its first part stays on the frame under its second.
-#[cycle(arguments_atom_binding_bracketed_choice_expression_named_product_sum)]
-pub(crate) fn binding<'t>(
-    text: &'t [u8],
-    functions: &[Function<'t>],
-    here: &Spot,
-    level: Level,
-    scope: &mut Scope<'t>,
-    image: &mut [u32],
-) -> Result<Spot, Refusal>
-    requires { (Fit text.now here.now) × ((Stands here.now level scope.old.items) × (AtKind here.now (WordKind LetWord))) }
-    ensures goes { Goes an_expr from_expr text.now (env functions.now scope.old.items) here.now level image.old result image.new }
-    ensures kept { scope.new ≡ scope.old }
-{
-    let named = here.enter(text, level.depth)?;
-    let equals = named.expect(text, Kind::Name)?;
-    let value = equals.expect(text, Kind::Word(Word::Equals))?;
-    let deeper = Level {
-        depth: level.depth + 1,
-        held: level.held,
-    };
-    let within = expression(text, functions, &value, deeper, scope, image)?;
-    let body = within.expect(text, Kind::Word(Word::In))?;
-    let old = scope.len();
-    let inner = Within { scope, old };
-    inner.scope.push(Variable {
-        name: spelling(text, named.look),
-        slot: level.held as u16,
-    });
-    let deeper = Level {
-        held: level.held + 1,
-        ..deeper
-    };
-    let last = expression(text, functions, &body, deeper, inner.scope, image)?;
-    Ok(Spot {
-        out: last.out.emit(image, Instruction::Out),
-        ..last
-    })
-}
-
-// A choice by a test: a word after the test leads past the first part, and one after that past the second, once they are known.
-#[cycle(arguments_atom_binding_bracketed_choice_expression_named_product_sum)]
-pub(crate) fn choice<'t>(
-    text: &'t [u8],
-    functions: &[Function<'t>],
-    here: &Spot,
-    level: Level,
-    scope: &mut Scope<'t>,
-    image: &mut [u32],
-) -> Result<Spot, Refusal>
-    requires { (Fit text.now here.now) × ((Stands here.now level scope.old.items) × (AtKind here.now (WordKind IfpWord))) }
-    ensures goes { Goes an_expr from_expr text.now (env functions.now scope.old.items) here.now level image.old result image.new }
-    ensures kept { scope.new ≡ scope.old }
-{
-    let test = here.enter(text, level.depth)?;
-    let deeper = Level {
-        depth: level.depth + 1,
-        held: level.held,
-    };
-    let then = expression(text, functions, &test, deeper, scope, image)?;
-    let first = then.expect(text, Kind::Word(Word::Then))?;
-    let branch = first.out.at;
-    let first = Spot {
-        out: first.out.skip(),
-        ..first
-    };
-    let other = expression(text, functions, &first, deeper, scope, image)?;
-    let second = other.expect(text, Kind::Word(Word::Else))?;
-    let jump = second.out.at;
-    let second = Spot {
-        out: second.out.skip(),
-        ..second
-    };
-    put(image, branch, Instruction::Unless(second.out.at as u16));
-    let last = expression(text, functions, &second, deeper, scope, image)?;
-    put(image, jump, Instruction::Go(last.out.at as u16));
-    Ok(last)
-}
-
-#[cycle(arguments_atom_binding_bracketed_choice_expression_named_product_sum)]
-pub(crate) fn sum<'t>(
-    text: &'t [u8],
-    functions: &[Function<'t>],
-    here: &Spot,
-    level: Level,
-    scope: &mut Scope<'t>,
-    image: &mut [u32],
-) -> Result<Spot, Refusal>
-    requires { (Fit text.now here.now) × (Stands here.now level scope.old.items) }
-    ensures goes { Goes a_sum from_sum text.now (env functions.now scope.old.items) here.now level image.old result image.new }
-    ensures kept { scope.new ≡ scope.old }
-{
-    let mut so_far = product(text, functions, here, level, scope, image)?;
-    while additive(so_far.look.kind) {
-        let joining = operator(so_far.look.kind);
-        let right = so_far.construct(text)?;
-        let read = product(
-            text,
-            functions,
-            &right,
-            Level {
-                held: level.held + 1,
-                ..level
-            },
-            scope,
-            image,
-        )?;
-        so_far = Spot {
-            out: read.out.emit(image, joining),
-            ..read
-        };
-    }
-    Ok(so_far)
-}
-
-#[cycle(arguments_atom_binding_bracketed_choice_expression_named_product_sum)]
-pub(crate) fn product<'t>(
-    text: &'t [u8],
-    functions: &[Function<'t>],
-    here: &Spot,
-    level: Level,
-    scope: &mut Scope<'t>,
-    image: &mut [u32],
-) -> Result<Spot, Refusal>
-    requires { (Fit text.now here.now) × (Stands here.now level scope.old.items) }
-    ensures goes { Goes a_product from_product text.now (env functions.now scope.old.items) here.now level image.old result image.new }
-    ensures kept { scope.new ≡ scope.old }
-{
-    let mut so_far = atom(text, functions, here, level, scope, image)?;
-    while multiplicative(so_far.look.kind) {
-        let joining = operator(so_far.look.kind);
-        let right = so_far.construct(text)?;
-        let read = atom(
-            text,
-            functions,
-            &right,
-            Level {
-                held: level.held + 1,
-                ..level
-            },
-            scope,
-            image,
-        )?;
-        so_far = Spot {
-            out: read.out.emit(image, joining),
-            ..read
-        };
-    }
-    Ok(so_far)
-}
-
-#[cycle(arguments_atom_binding_bracketed_choice_expression_named_product_sum)]
-pub(crate) fn atom<'t>(
-    text: &'t [u8],
-    functions: &[Function<'t>],
-    here: &Spot,
-    level: Level,
-    scope: &mut Scope<'t>,
-    image: &mut [u32],
-) -> Result<Spot, Refusal>
-    requires { (Fit text.now here.now) × (Stands here.now level scope.old.items) }
-    ensures goes { Goes an_atom from_atom text.now (env functions.now scope.old.items) here.now level image.old result image.new }
-    ensures kept { scope.new ≡ scope.old }
-{
-    match here.look.kind {
-        Kind::Number(value) => {
-            let after = here.construct(text)?;
-            Ok(Spot {
-                out: after
-                    .out
-                    .push(level.held, image, Instruction::Number(value)),
-                ..after
-            })
+impl<'t> Descent<'t, '_> {
+    #[cycle(expressions)]
+    pub(crate) fn expression(
+        &self,
+        here: &Spot,
+        level: Level,
+        scope: &mut Scope<'t>,
+        image: &mut [u32],
+    ) -> Result<Spot, Refusal>
+        requires { Ready self.now here.now level scope.old.items }
+        ensures goes { Descends an_expr from_expr self.now scope.old.items here.now level image.old result image.new }
+        ensures kept { scope.new ≡ scope.old }
+    {
+        match here.look.kind {
+            Kind::Word(Word::Let) => self.binding(here, level, scope, image),
+            Kind::Word(Word::Ifp) => self.choice(here, level, scope, image),
+            _ => self.chain(Chain::Sum, here, level, scope, image),
         }
-        Kind::Name => named(text, functions, here, level, scope, image),
-        Kind::Word(Word::Weigh) => weighing(text, functions, here, level, scope, image),
-        Kind::Word(Word::Open) => bracketed(text, functions, here, level, scope, image),
-        _ => Err(here.refused(Cause::Grammar)),
     }
-}
 
-pub(crate) fn weighing<'t>(
-    text: &'t [u8],
-    functions: &[Function<'t>],
-    here: &Spot,
-    level: Level,
-    scope: &Scope<'t>,
-    image: &mut [u32],
-) -> Result<Spot, Refusal>
-    requires { (Fit text.now here.now) × ((Stands here.now level scope.now.items) × (AtKind here.now (WordKind WeighWord))) }
-    ensures { Goes an_atom from_atom text.now (env functions.now scope.now.items) here.now level image.old result image.new }
-{
-    let after = here.construct(text)?;
-    match after.look.kind {
-        Kind::Number(value) => {
-            let out = channel(after.out, level.held, value, after.look.start, image);
-            Ok(Spot {
-                out,
-                ..after.past(text)
-            })
-        }
-        _ => Err(after.refused(Cause::Grammar)),
+    // A let expression: the value of its first part stays on the frame under its second.
+    #[cycle(expressions)]
+    fn binding(
+        &self,
+        here: &Spot,
+        level: Level,
+        scope: &mut Scope<'t>,
+        image: &mut [u32],
+    ) -> Result<Spot, Refusal>
+        requires { (Ready self.now here.now level scope.old.items) × (AtKind here.now (WordKind LetWord)) }
+        ensures goes { Descends an_expr from_expr self.now scope.old.items here.now level image.old result image.new }
+        ensures kept { scope.new ≡ scope.old }
+    {
+        let deeper = level.deeper(here)?;
+        let named = here.construct(self.text)?;
+        let equals = named.expect(self.text, Kind::Name)?;
+        let value = equals.expect(self.text, Kind::Word(Word::Equals))?;
+        let within = self.expression(&value, deeper, scope, image)?;
+        let body = within.expect(self.text, Kind::Word(Word::In))?;
+        let old = scope.len();
+        let inner = Within { scope, old };
+        inner.scope.push(Variable {
+            name: named.spelling(self.text),
+            slot: level.held as u16,
+        });
+        let last = self.expression(&body, deeper.holding(1), inner.scope, image)?;
+        Ok(Spot {
+            out: last.out.emit(image, Instruction::Out),
+            ..last
+        })
     }
-}
 
-#[cycle(arguments_atom_binding_bracketed_choice_expression_named_product_sum)]
-pub(crate) fn bracketed<'t>(
-    text: &'t [u8],
-    functions: &[Function<'t>],
-    here: &Spot,
-    level: Level,
-    scope: &mut Scope<'t>,
-    image: &mut [u32],
-) -> Result<Spot, Refusal>
-    requires { (Fit text.now here.now) × ((Stands here.now level scope.old.items) × (AtKind here.now (WordKind OpenWord))) }
-    ensures goes { Goes an_atom from_atom text.now (env functions.now scope.old.items) here.now level image.old result image.new }
-    ensures kept { scope.new ≡ scope.old }
-{
-    let inner = here.open(text, level.depth)?;
-    let within = expression(
-        text,
-        functions,
-        &inner,
-        Level {
-            depth: level.depth + 1,
-            held: level.held,
-        },
-        scope,
-        image,
-    )?;
-    within.expect(text, Kind::Word(Word::Close))
-}
-
-// A variable or a call.
-#[cycle(arguments_atom_binding_bracketed_choice_expression_named_product_sum)]
-pub(crate) fn named<'t>(
-    text: &'t [u8],
-    functions: &[Function<'t>],
-    here: &Spot,
-    level: Level,
-    scope: &mut Scope<'t>,
-    image: &mut [u32],
-) -> Result<Spot, Refusal>
-    requires { (Fit text.now here.now) × ((Stands here.now level scope.old.items) × (AtKind here.now NameKind)) }
-    ensures goes { Goes an_atom from_atom text.now (env functions.now scope.old.items) here.now level image.old result image.new }
-    ensures kept { scope.new ≡ scope.old }
-{
-    let name = spelling(text, here.look);
-    let place = here.look.start;
-    let after = here.construct(text)?;
-    if after.look.kind == Kind::Word(Word::Open) {
-        let inner = after.open(text, level.depth)?;
-        let given = arguments(text, functions, &inner, level, scope, image)?;
-        let out = call(functions, name, place, given.count, given.next.out, image);
-        Ok(Spot { out, ..given.next })
-    } else {
-        let out = load(scope, name, place, after.out, level.held, image);
-        Ok(Spot { out, ..after })
-    }
-}
-
-// A call's arguments, from the token after its bracket on; the call stands in a nesting of `level.depth`.
-#[cycle(arguments_atom_binding_bracketed_choice_expression_named_product_sum)]
-pub(crate) fn arguments<'t>(
-    text: &'t [u8],
-    functions: &[Function<'t>],
-    here: &Spot,
-    level: Level,
-    scope: &mut Scope<'t>,
-    image: &mut [u32],
-) -> Result<Given, Refusal>
-    requires { (Fit text.now here.now) × ((Stands here.now level scope.old.items) × (level.depth < 32)) }
-    ensures goes { GoesCall text.now (env functions.now scope.old.items) here.now level image.old result image.new }
-    ensures kept { scope.new ≡ scope.old }
-{
-    let deeper = Level {
-        depth: level.depth + 1,
-        held: level.held,
-    };
-    let mut so_far = expression(text, functions, here, deeper, scope, image)?;
-    let mut count: usize = 1;
-    while so_far.look.kind == Kind::Word(Word::Comma) {
-        let next = so_far.expect(text, Kind::Word(Word::Comma))?;
-        let deeper = Level {
-            held: level.held + count,
-            ..deeper
+    // A choice by a test: a word after the test leads past the first part, and one after that past the second, once they are known.
+    #[cycle(expressions)]
+    fn choice(
+        &self,
+        here: &Spot,
+        level: Level,
+        scope: &mut Scope<'t>,
+        image: &mut [u32],
+    ) -> Result<Spot, Refusal>
+        requires { (Ready self.now here.now level scope.old.items) × (AtKind here.now (WordKind IfpWord)) }
+        ensures goes { Descends an_expr from_expr self.now scope.old.items here.now level image.old result image.new }
+        ensures kept { scope.new ≡ scope.old }
+    {
+        let deeper = level.deeper(here)?;
+        let test = here.construct(self.text)?;
+        let then = self.expression(&test, deeper, scope, image)?;
+        let branch = then.expect(self.text, Kind::Word(Word::Then))?;
+        let first = Spot {
+            out: branch.out.skip(),
+            ..branch
         };
-        so_far = expression(text, functions, &next, deeper, scope, image)?;
-        count += 1;
+        let other = self.expression(&first, deeper, scope, image)?;
+        let jump = other.expect(self.text, Kind::Word(Word::Else))?;
+        let second = Spot {
+            out: jump.out.skip(),
+            ..jump
+        };
+        branch
+            .out
+            .put(image, Instruction::Unless(second.out.at as u16));
+        let last = self.expression(&second, deeper, scope, image)?;
+        jump.out.put(image, Instruction::Go(last.out.at as u16));
+        Ok(last)
     }
-    let next = so_far.expect(text, Kind::Word(Word::Close))?;
-    Ok(Given { next, count })
+
+    // A sum or a product.
+    #[cycle(expressions)]
+    fn chain(
+        &self,
+        chain: Chain,
+        here: &Spot,
+        level: Level,
+        scope: &mut Scope<'t>,
+        image: &mut [u32],
+    ) -> Result<Spot, Refusal>
+        requires { Ready self.now here.now level scope.old.items }
+        ensures goes { Descends (a_chain chain) (from_chain chain) self.now scope.old.items here.now level image.old result image.new }
+        ensures kept { scope.new ≡ scope.old }
+    {
+        let mut so_far = self.operand(chain, here, level, scope, image)?;
+        while let Some(op) = chain.operator(so_far.look.kind) {
+            let right = so_far.construct(self.text)?;
+            let read = self.operand(chain, &right, level.holding(1), scope, image)?;
+            so_far = Spot {
+                out: read.out.emit(image, Instruction::Operator(op)),
+                ..read
+            };
+        }
+        Ok(so_far)
+    }
+
+    // What a chain joins: a product in a sum, an atom in a product.
+    #[cycle(expressions)]
+    fn operand(
+        &self,
+        chain: Chain,
+        here: &Spot,
+        level: Level,
+        scope: &mut Scope<'t>,
+        image: &mut [u32],
+    ) -> Result<Spot, Refusal>
+        requires { Ready self.now here.now level scope.old.items }
+        ensures goes { Descends (an_operand chain) (from_operand chain) self.now scope.old.items here.now level image.old result image.new }
+        ensures kept { scope.new ≡ scope.old }
+    {
+        match chain {
+            Chain::Sum => self.chain(Chain::Product, here, level, scope, image),
+            Chain::Product => self.atom(here, level, scope, image),
+        }
+    }
+
+    #[cycle(expressions)]
+    fn atom(
+        &self,
+        here: &Spot,
+        level: Level,
+        scope: &mut Scope<'t>,
+        image: &mut [u32],
+    ) -> Result<Spot, Refusal>
+        requires { Ready self.now here.now level scope.old.items }
+        ensures goes { Descends an_atom from_atom self.now scope.old.items here.now level image.old result image.new }
+        ensures kept { scope.new ≡ scope.old }
+    {
+        match here.look.kind {
+            Kind::Number(value) => {
+                let after = here.construct(self.text)?;
+                Ok(Spot {
+                    out: after
+                        .out
+                        .push(level.held, image, Instruction::Number(value)),
+                    ..after
+                })
+            }
+            Kind::Name => self.named(here, level, scope, image),
+            Kind::Word(Word::Weigh) => self.weighing(here, level, scope, image),
+            Kind::Word(Word::Open) => self.bracketed(here, level, scope, image),
+            _ => Err(here.refused(Cause::Grammar)),
+        }
+    }
+
+    fn weighing(
+        &self,
+        here: &Spot,
+        level: Level,
+        scope: &Scope<'t>,
+        image: &mut [u32],
+    ) -> Result<Spot, Refusal>
+        requires { (Ready self.now here.now level scope.now.items) × (AtKind here.now (WordKind WeighWord)) }
+        ensures { Descends an_atom from_atom self.now scope.now.items here.now level image.old result image.new }
+    {
+        let after = here.construct(self.text)?;
+        match after.look.kind {
+            Kind::Number(value) => {
+                let out = channel(after.out, level.held, value, after.look.start, image);
+                Ok(Spot {
+                    out,
+                    ..after.past(self.text)
+                })
+            }
+            _ => Err(after.refused(Cause::Grammar)),
+        }
+    }
+
+    #[cycle(expressions)]
+    fn bracketed(
+        &self,
+        here: &Spot,
+        level: Level,
+        scope: &mut Scope<'t>,
+        image: &mut [u32],
+    ) -> Result<Spot, Refusal>
+        requires { (Ready self.now here.now level scope.old.items) × (AtKind here.now (WordKind OpenWord)) }
+        ensures goes { Descends an_atom from_atom self.now scope.old.items here.now level image.old result image.new }
+        ensures kept { scope.new ≡ scope.old }
+    {
+        let deeper = level.deeper(here)?;
+        let inner = here.past(self.text);
+        let within = self.expression(&inner, deeper, scope, image)?;
+        within.expect(self.text, Kind::Word(Word::Close))
+    }
+
+    // A variable or a call.
+    #[cycle(expressions)]
+    fn named(
+        &self,
+        here: &Spot,
+        level: Level,
+        scope: &mut Scope<'t>,
+        image: &mut [u32],
+    ) -> Result<Spot, Refusal>
+        requires { (Ready self.now here.now level scope.old.items) × (AtKind here.now NameKind) }
+        ensures goes { Descends an_atom from_atom self.now scope.old.items here.now level image.old result image.new }
+        ensures kept { scope.new ≡ scope.old }
+    {
+        let name = here.spelling(self.text);
+        let place = here.look.start;
+        let after = here.construct(self.text)?;
+        if after.look.kind == Kind::Word(Word::Open) {
+            let deeper = level.deeper(&after)?;
+            let inner = after.past(self.text);
+            let given = self.arguments(&inner, deeper, scope, image)?;
+            let out = call(
+                self.functions,
+                name,
+                place,
+                given.count,
+                given.next.out,
+                image,
+            );
+            Ok(Spot { out, ..given.next })
+        } else {
+            let out = load(scope, name, place, after.out, level.held, image);
+            Ok(Spot { out, ..after })
+        }
+    }
+
+    // A call's arguments, from the token after its bracket on.
+    #[cycle(expressions)]
+    fn arguments(
+        &self,
+        here: &Spot,
+        level: Level,
+        scope: &mut Scope<'t>,
+        image: &mut [u32],
+    ) -> Result<Given, Refusal>
+        requires { Ready self.now here.now level scope.old.items }
+        ensures goes { GoesCall self.now.text.now (knows self.now scope.old.items) here.now level image.old result image.new }
+        ensures kept { scope.new ≡ scope.old }
+    {
+        let mut so_far = self.expression(here, level, scope, image)?;
+        let mut count: usize = 1;
+        while let Ok(next) = so_far.expect(self.text, Kind::Word(Word::Comma)) {
+            so_far = self.expression(&next, level.holding(count), scope, image)?;
+            count += 1;
+        }
+        let next = so_far.expect(self.text, Kind::Word(Word::Close))?;
+        Ok(Given { next, count })
+    }
 }

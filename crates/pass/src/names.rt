@@ -1,17 +1,14 @@
 // The names that a pass knows: the functions of a recipe, and the variables in force.
 ghost use Rattle.std.specs.Prelude.{◌≡◌, ◌≤◌, ◌&&◌, nat_le, take, slice_set};
-ghost use Rattle.std.specs.List.{between};
 ghost use Rattle.recipe.specs.declared.cause.Cause.TheVariants.{Channel, UnknownName};
 ghost use Rattle.recipe.specs.Names.{fault_unless, among, arity_of, call_faults};
 ghost use Rattle.recipe.specs.Image.{VAR, WEIGH, CALL, find};
-ghost use Rattle.lexer.specs.Lexed.{Valid};
 ghost use Rattle.pass.specs.Known.{entered, in_force, spelled, slot_in, first_of, signed};
 ghost use Rattle.pass.specs.Outputs.{emitted, pushed, faulted};
 
 use crate::instruction::Instruction;
 use crate::output::Output;
 use arrayvec::ArrayVec;
-use lexer::Lexeme;
 use recipe::{Cause, Refusal};
 
 // A function: its name, how many parameters it has, and the index of its first word.
@@ -45,14 +42,6 @@ impl Drop for Within<'_, '_> {
         let Within { scope, old } = self;
         scope.truncate(old);
     }
-}
-
-// The bytes that a lexeme takes.
-pub(crate) fn spelling<'t>(text: &'t [u8], name: Lexeme) -> &'t [u8]
-    requires { Valid text.now name }
-    ensures { result.now ≡ between name.start name.end text.now }
-{
-    &text[name.start..name.end]
 }
 
 // The slot of the newest variable of a name.

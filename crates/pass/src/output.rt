@@ -14,16 +14,6 @@ pub(crate) struct Output {
     pub(crate) fault: Option<Refusal>,
 }
 
-// A word at an index; past the end nothing is written, so an empty image makes a dry run.
-pub(crate) fn put(image: &mut [u32], at: usize, instruction: Instruction)
-    requires { Holds instruction }
-    ensures { image.new ≡ slice_set image.old at (word_for instruction) }
-{
-    if at < image.len() {
-        image[at] = instruction.word();
-    }
-}
-
 // The earlier of two faults; at one place, the smaller cause.
 fn sooner_of(first: Refusal, other: Refusal) -> Refusal
     ensures { result ≡ sooner first other }
@@ -36,6 +26,16 @@ fn sooner_of(first: Refusal, other: Refusal) -> Refusal
 }
 
 impl Output {
+    // A word at its index; past the end nothing is written, so an empty image makes a dry run.
+    pub(crate) fn put(self, image: &mut [u32], instruction: Instruction)
+        requires { Holds instruction }
+        ensures { image.new ≡ slice_set image.old self.at (word_for instruction) }
+    {
+        if self.at < image.len() {
+            image[self.at] = instruction.word();
+        }
+    }
+
     // Room for one word more.
     pub(crate) fn skip(self) -> Output
         requires { self.at ≤ 8192 }
@@ -53,7 +53,7 @@ impl Output {
         ensures made { result ≡ emitted self }
         ensures written { image.new ≡ slice_set image.old self.at (word_for instruction) }
     {
-        put(image, self.at, instruction);
+        self.put(image, instruction);
         self.skip()
     }
 

@@ -1,27 +1,27 @@
 // A pass over a whole recipe: its declarations, and its main expression.
 ghost use Rattle.std.specs.Prelude.{◌≡◌, ◌+◌, ◌*◌, ◌≤◌, length};
 ghost use Rattle.pass.specs.Outputs.{over_with};
-ghost use Rattle.pass.specs.Reads.{Fit, Takes, GoesHead, IsName, Limited, DeclarationsOn, GoesDeclaration, GoesDeclarations, IsPass, GoesRecipe};
+ghost use Rattle.pass.specs.Reads.{Fit, Takes, GoesHead, Limited, DeclarationsOn, GoesDeclaration, GoesDeclarations, GoesRecipe};
 
 use crate::base::Base;
 use crate::cursor::{Level, Spot};
-use crate::descent::expression;
+use crate::descent::Descent;
 use crate::instruction::Instruction;
-use crate::names::{Function, Scope, Variable, function_of, slot_of, spelling};
+use crate::names::{Function, Scope, Variable, function_of, slot_of};
 use crate::output::Output;
 use arrayvec::ArrayVec;
 use lexer::{Kind, next_token};
 use recipe::{Cause, Refusal, Word};
 
 // What stands after a declaration, and how many parameters it has.
-#[derive(Clone, Copy)]
+#[derive(Clone, Copy, PartialEq, Eq, Debug)]
 pub(crate) struct Declared {
     pub(crate) next: Spot,
     pub(crate) arity: usize,
 }
 
 // The functions so far, and the place of the first whose frame is too large.
-#[derive(Drop)]
+#[derive(PartialEq, Eq, Debug, Drop)]
 pub(crate) struct Heads<'t> {
     pub(crate) next: Spot,
     pub(crate) over: Option<usize>,
@@ -39,83 +39,8 @@ pub struct Pass<'t> {
     pub functions: ArrayVec<Function<'t>, 32>,
 }
 
-// Past the name of a parameter, which must not be among those before it.
-pub(crate) fn parameter<'t>(
-    text: &'t [u8],
-    here: Spot,
-    scope: &mut Scope<'t>,
-) -> Result<Spot, Refusal>
-    requires { (Fit text.now here) × (length scope.old.items ≤ 8) }
-    ensures { Takes text.now here scope.old.items result scope.new.items }
-{
-    let after = here.expect(text, Kind::Name)?;
-    let slot = scope.len();
-    if slot < 8 {
-        let name = spelling(text, here.look);
-        let again = slot_of(scope, name).is_some();
-        let fault = again.then_some(here.refused(Cause::DeclaredTwice));
-        scope.push(Variable {
-            name,
-            slot: slot as u16,
-        });
-        Ok(Spot {
-            out: after.out.note(fault),
-            ..after
-        })
-    } else {
-        Err(here.refused(Cause::Parameters))
-    }
-}
-
-// A declaration, from its bracket on: its words begin with the number of its parameters, and end with the way back.
-pub(crate) fn head<'t>(
-    text: &'t [u8],
-    functions: &[Function<'t>],
-    here: &Spot,
-    image: &mut [u32],
-) -> Result<Declared, Refusal>
-    requires { (Fit text.now here.now) × (here.now.out.at + 2 ≤ 2 * here.now.count + 4100) }
-    ensures { GoesHead text.now functions.now here.now image.old result image.new }
-{
-    let first = here.expect(text, Kind::Word(Word::Open))?;
-    let mut scope = Scope::new();
-    let mut so_far = parameter(text, first, &mut scope)?;
-    while so_far.look.kind == Kind::Word(Word::Comma) {
-        let next = so_far.expect(text, Kind::Word(Word::Comma))?;
-        so_far = parameter(text, next, &mut scope)?;
-    }
-    let close = so_far.expect(text, Kind::Word(Word::Close))?;
-    let equals = close.expect(text, Kind::Word(Word::Equals))?;
-    let arity = scope.len();
-    let body = Spot {
-        out: equals.out.emit(image, Instruction::Function(arity as u16)),
-        ..equals
-    };
-    let level = Level {
-        depth: 0,
-        held: arity,
-    };
-    let last = expression(text, functions, &body, level, &mut scope, image)?;
-    Ok(Declared {
-        next: Spot {
-            out: last.out.emit(image, Instruction::Back),
-            ..last
-        },
-        arity,
-    })
-}
-
-pub(crate) fn is_name(kind: Kind) -> bool
-    ensures { IsName result kind }
-{
-    match kind {
-        Kind::Name => true,
-        _ => false,
-    }
-}
-
 // Past the name of a function, after as many others.
-pub(crate) fn function_name(text: &[u8], here: Spot, before: usize) -> Result<Spot, Refusal>
+fn function_name(text: &[u8], here: Spot, before: usize) -> Result<Spot, Refusal>
     requires { (Fit text.now here) × (before ≤ 32) }
     ensures { Limited text.now here before result }
 {
@@ -128,89 +53,120 @@ pub(crate) fn function_name(text: &[u8], here: Spot, before: usize) -> Result<Sp
 }
 
 // The place of the first frame over 32 values, with one frame more.
-pub(crate) fn first_over(over: Option<usize>, holds: usize, place: usize) -> Option<usize>
+fn first_over(over: Option<usize>, holds: usize, place: usize) -> Option<usize>
     ensures { result ≡ over_with over holds place }
 {
-    match over {
-        None if holds > 32 => Some(place),
-        _ => over,
+    over.or((holds > 32).then_some(place))
+}
+
+impl<'t> Descent<'t, '_> {
+    // Past the name of a parameter, which must not be among those before it.
+    fn parameter(&self, here: Spot, scope: &mut Scope<'t>) -> Result<Spot, Refusal>
+        requires { (Fit self.now.text.now here) × (length scope.old.items ≤ 8) }
+        ensures { Takes self.now.text.now here scope.old.items result scope.new.items }
+    {
+        let after = here.expect(self.text, Kind::Name)?;
+        let slot = scope.len();
+        if slot < 8 {
+            let name = here.spelling(self.text);
+            let again = slot_of(scope, name).is_some();
+            let fault = again.then_some(here.refused(Cause::DeclaredTwice));
+            scope.push(Variable {
+                name,
+                slot: slot as u16,
+            });
+            Ok(Spot {
+                out: after.out.note(fault),
+                ..after
+            })
+        } else {
+            Err(here.refused(Cause::Parameters))
+        }
     }
-}
 
-// A declaration, after those before it.
-pub(crate) fn declaration<'t>(
-    text: &'t [u8],
-    functions: &[Function<'t>],
-    heads: &mut Heads<'t>,
-    image: &mut [u32],
-) -> Result<(), Refusal>
-    requires { DeclarationsOn text.now heads.old }
-    ensures { GoesDeclaration text.now functions.now heads.old image.old result heads.new image.new }
-{
-    let here = heads.next;
-    let after = function_name(text, here, heads.functions.len())?;
-    let name = spelling(text, here.look);
-    let again = function_of(&heads.functions, name).is_some();
-    let own = Output {
-        peak: 0,
-        ..after.out
-    };
-    let named = Spot {
-        out: own.note(again.then_some(here.refused(Cause::DeclaredTwice))),
-        ..after
-    };
-    let inside = head(text, functions, &named, image)?;
-    heads.functions.push(Function {
-        name,
-        arity: inside.arity,
-        target: (here.out.at + 1) as u16,
-    });
-    heads.over = first_over(heads.over, inside.next.out.peak, here.look.start);
-    heads.next = inside.next;
-    Ok(())
-}
+    // A declaration, from its bracket on: its words begin with the number of its parameters, and end with the way back.
+    fn head(&self, here: &Spot, image: &mut [u32]) -> Result<Declared, Refusal>
+        requires { (Fit self.now.text.now here.now) × (here.now.out.at + 2 ≤ 2 * here.now.count + 4100) }
+        ensures { GoesHead self.now.text.now self.now.functions.now here.now image.old result image.new }
+    {
+        let first = here.expect(self.text, Kind::Word(Word::Open))?;
+        let mut scope = Scope::new();
+        let mut so_far = self.parameter(first, &mut scope)?;
+        while let Ok(next) = so_far.expect(self.text, Kind::Word(Word::Comma)) {
+            so_far = self.parameter(next, &mut scope)?;
+        }
+        let close = so_far.expect(self.text, Kind::Word(Word::Close))?;
+        let equals = close.expect(self.text, Kind::Word(Word::Equals))?;
+        let arity = scope.len();
+        let body = Spot {
+            out: equals.out.emit(image, Instruction::Function(arity as u16)),
+            ..equals
+        };
+        let level = Level {
+            depth: 0,
+            held: arity,
+        };
+        let last = self.expression(&body, level, &mut scope, image)?;
+        Ok(Declared {
+            next: Spot {
+                out: last.out.emit(image, Instruction::Back),
+                ..last
+            },
+            arity,
+        })
+    }
 
-// The declarations of a recipe, from its beginning on; their words begin at `base`.
-pub(crate) fn declarations<'t>(
-    text: &'t [u8],
-    functions: &[Function<'t>],
-    base: Base,
-    image: &mut [u32],
-) -> Result<Heads<'t>, Refusal>
-    ensures { GoesDeclarations text.now functions.now base.index image.old result image.new }
-{
-    let start = Spot {
-        look: next_token(text, 0),
-        count: 0,
-        out: Output {
-            at: base.index,
+    // A declaration, after those before it.
+    fn declaration(&self, heads: &mut Heads<'t>, image: &mut [u32]) -> Result<(), Refusal>
+        requires { DeclarationsOn self.now.text.now heads.old }
+        ensures { GoesDeclaration self.now.text.now self.now.functions.now heads.old image.old result heads.new image.new }
+    {
+        let here = heads.next;
+        let after = function_name(self.text, here, heads.functions.len())?;
+        let name = here.spelling(self.text);
+        let again = function_of(&heads.functions, name).is_some();
+        let own = Output {
             peak: 0,
-            fault: None,
-        },
-    };
-    let mut heads = Heads {
-        next: start.expect(text, Kind::Word(Word::Let))?,
-        over: None,
-        functions: ArrayVec::new(),
-    };
-    declaration(text, functions, &mut heads, image)?;
-    while is_name(heads.next.look.kind) {
-        declaration(text, functions, &mut heads, image)?;
+            ..after.out
+        };
+        let named = Spot {
+            out: own.note(again.then_some(here.refused(Cause::DeclaredTwice))),
+            ..after
+        };
+        let inside = self.head(&named, image)?;
+        heads.functions.push(Function {
+            name,
+            arity: inside.arity,
+            target: (here.out.at + 1) as u16,
+        });
+        heads.over = first_over(heads.over, inside.next.out.peak, here.look.start);
+        heads.next = inside.next;
+        Ok(())
     }
-    Ok(heads)
-}
 
-// What the declarations come to, up to the recipe's own `in`, and the main expression after it.
-pub(crate) fn pass_of(heads: Heads<'_>, main: Output) -> Pass<'_>
-    requires { main.at ≤ 4036 }
-    ensures { IsPass heads.entry main result }
-{
-    Pass {
-        past_functions: heads.next.out.at,
-        past_main: Base { index: main.at },
-        fault: main.fault,
-        over: first_over(heads.over, main.peak, heads.next.look.start),
-        functions: heads.functions,
+    // The declarations of a recipe, from its beginning on; their words begin at `base`.
+    fn declarations(&self, base: Base, image: &mut [u32]) -> Result<Heads<'t>, Refusal>
+        ensures { GoesDeclarations self.now.text.now self.now.functions.now base.index image.old result image.new }
+    {
+        let start = Spot {
+            look: next_token(self.text, 0),
+            count: 0,
+            out: Output {
+                at: base.index,
+                peak: 0,
+                fault: None,
+            },
+        };
+        let mut heads = Heads {
+            next: start.expect(self.text, Kind::Word(Word::Let))?,
+            over: None,
+            functions: ArrayVec::new(),
+        };
+        self.declaration(&mut heads, image)?;
+        while heads.next.look.kind == Kind::Name {
+            self.declaration(&mut heads, image)?;
+        }
+        Ok(heads)
     }
 }
 
@@ -223,7 +179,8 @@ pub fn over<'t>(
 ) -> Result<Pass<'t>, Refusal>
     ensures { GoesRecipe text.now functions.now base.index image.old result image.new }
 {
-    let heads = declarations(text, functions, base, image)?;
+    let descent = Descent { text, functions };
+    let heads = descent.declarations(base, image)?;
     let within = heads.next.expect(text, Kind::Word(Word::In))?;
     let main = Spot {
         out: Output {
@@ -233,14 +190,17 @@ pub fn over<'t>(
         },
         ..within
     };
-    let mut scope = Scope::new();
     let level = Level { depth: 0, held: 0 };
-    let last = expression(text, functions, &main, level, &mut scope, image)?;
-    match last.look.kind {
-        Kind::End => {
-            let out = last.out.emit(image, Instruction::Back);
-            Ok(pass_of(heads, out))
-        }
-        _ => Err(last.refused(Cause::Grammar)),
+    let last = descent.expression(&main, level, &mut Scope::new(), image)?;
+    if last.look.kind != Kind::End {
+        return Err(last.refused(Cause::Grammar));
     }
+    let out = last.out.emit(image, Instruction::Back);
+    Ok(Pass {
+        past_functions: heads.next.out.at,
+        past_main: Base { index: out.at },
+        fault: out.fault,
+        over: first_over(heads.over, out.peak, heads.next.look.start),
+        functions: heads.functions,
+    })
 }

@@ -5,12 +5,12 @@ use Rattle.pass.specs.Known.{ident, in_force, spelled}
 use Rattle.pass.specs.Outputs.{faulted, again}
 use Rattle.pass.proofs.Makes.{at_of}
 use Rattle.pass.proofs.Lookups.{noted_again, slot_again, in_force_more}
-use Rattle.pass.proofs.passes.parameter.Goals as goal
+use Rattle.pass.proofs.descent.Descent.parameter.Goals as goal
 
 pub returns-then-slot-lt8 : goal.returns-then-slot-lt8
 returns-then-slot-lt8 c =
     let scope = c.args.scope.now.items in
-    let x = ident c.args.text.now c.args.here.look in
+    let x = ident c.args.self.now.text.now c.args.here.look in
     let known = spelled (in_force scope) in
     let a = c.in_ok-after.ensures in
     let stands = slot_again c.slot_of.ensures c.deref.ensures.0 c.spelling-name.ensures c.is_some-again.ensures in

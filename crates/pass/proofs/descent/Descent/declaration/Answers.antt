@@ -4,11 +4,11 @@ use Rattle.pass.specs.Known.{ident, entered, spelled}
 use Rattle.pass.specs.Reads.{With}
 use Rattle.pass.proofs.Tables.{past_name, added_on}
 use Rattle.pass.proofs.Lookups.{noted_again, function_again}
-use Rattle.pass.proofs.passes.declaration.Goals as goal
+use Rattle.pass.proofs.descent.Descent.declaration.Goals as goal
 
 pub returns-in_err-inside : goal.returns-in_err-inside
 returns-in_err-inside c =
-    let text = c.args.text.now in
+    let text = c.args.self.now.text.now in
     let h = c.args.heads.now in
     let q = c.in_ok-after.ensures in
     let again = function_again c.function_of.ensures c.deref.ensures.0 c.spelling-name.ensures c.is_some-again.ensures in
@@ -18,7 +18,7 @@ returns-in_err-inside c =
 
 pub returns : goal.returns
 returns c =
-    let text = c.args.text.now in
+    let text = c.args.self.now.text.now in
     let h = c.args.heads.now in
     let q = c.in_ok-after.ensures in
     let again = function_again c.function_of.ensures c.deref.ensures.0 c.spelling-name.ensures c.is_some-again.ensures in
@@ -33,6 +33,6 @@ returns c =
       named = n;
       headed = e;
       more = w;
-      on = added_on text c.args.functions.now h c.requires n e w;
+      on = added_on text c.args.self.now.functions.now h c.requires n e w;
       far = omega (arith, q.1.far, e.far);
     }
