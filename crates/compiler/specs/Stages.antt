@@ -1,5 +1,5 @@
 -- What each stage of a compilation decides.
-use Rattle.std.specs.Prelude.{◌≡◌, ℕ, ◌+◌, ◌≤◌, true, List, length, take, None, Result, MatchResult}
+use Rattle.std.specs.Prelude.{◌≡◌, ℕ, ◌+◌, ◌≤◌, true, List, length, None, Result, MatchResult}
 use Rattle.recipe.specs.declared.cause.Refusal.{Refusal}
 use Rattle.recipe.specs.Causes.{cause_number}
 use Rattle.recipe.specs.Tokens.{fine, wrong, tokens, all_tokens}
@@ -10,7 +10,7 @@ use Rattle.recipe.specs.Names.{all, verdict_of}
 use Rattle.recipe.specs.Image.{past, past_all, entries, image}
 use Rattle.recipe.specs.Compiled.{Answer, accepted, refused, then, understood, compiled, compile_answer, image_after, untouched, answered, said}
 use Rattle.pass.specs.declared.passes.Pass.{Pass}
-use Rattle.pass.specs.Known.{Declared, entered}
+use Rattle.pass.specs.Known.{entered}
 use Rattle.pass.specs.Reads.{frame_verdict}
 
 -- the answer that a refusal is
@@ -40,12 +40,10 @@ pub record Planned (text : List ℕ) (p : Pass) : Type 0 where
   pub main : Expr
   pub reads : reading (length text) start 0 (tokens text) ≡ fine (recipe declared at_in main)
   pub answer : understood text ≡ accepted (image (recipe declared at_in main))
-  pub main_end : p.past_main ≡ past 1 main + 1
+  pub main_end : p.past_main.index ≡ past 1 main + 1
   pub functions_end : p.past_functions ≡ past_all (past 1 main + 1) (all declared)
   pub sized : p.past_functions ≡ length (image (recipe declared at_in main))
-  pub few : p.count ≤ 32
-  pub named : Declared text (take p.count p.table)
-  pub enters : entered text (take p.count p.table) ≡ entries (past 1 main + 1) (all declared)
+  pub enters : entered p.functions.items ≡ entries (past 1 main + 1) (all declared)
 
 abbrev pub Plans : List ℕ → Result Pass Refusal → Type 0
 Plans text r = MatchResult r (λ p. Planned text p) (λ e. understood text ≡ refusal e)

@@ -1,14 +1,12 @@
 // Compilation of a text, stage by stage.
-ghost use Rattle.std.specs.Prelude.{◌≡◌, ◌<◌, ◌≤◌, length, replicate, slice_set};
+ghost use Rattle.std.specs.Prelude.{◌≡◌, ◌<◌, ◌≤◌, length, slice_set};
 ghost use Rattle.recipe.specs.Compiled.{Compiles};
 ghost use Rattle.recipe.specs.Image.{HEAD};
 ghost use Rattle.recipe.specs.Theorem.{Meaning};
-ghost use Rattle.pass.specs.Known.{Declared};
-ghost use Rattle.pass.specs.Reads.{GoesRecipe};
 ghost use Rattle.compiler.specs.Stages.{Admits, Checks, Judges, Plans, Planned, Translates, Written};
 
 use lexer::{Kind, next_token};
-use pass::{Function, Pass, over};
+use pass::{Base, Pass, over};
 use recipe::{Cause, Refusal};
 
 const LONGEST_TEXT: usize = 60_000;
@@ -17,17 +15,17 @@ const IMAGE_WORDS: usize = 4_096;
 
 const TABLE_WORDS: usize = 2_000;
 
-// Before the text is read, by lengths: the text's, then those of the image and the work table.
-pub(crate) fn admit(text: usize, image: usize, table: usize) -> Result<(), Refusal>
-    ensures { Admits text image table result }
+// Before the text is read, by the lengths of the text, the image and the work table.
+pub(crate) fn admit(text: &[u8], image: &[u32], table: &[u32]) -> Result<(), Refusal>
+    ensures { Admits (length text.now) (length image.now) (length table.now) result }
 {
-    if text > LONGEST_TEXT {
+    if text.len() > LONGEST_TEXT {
         return Err(Refusal {
             cause: Cause::TextTooLong,
             place: LONGEST_TEXT,
         });
     }
-    if image < IMAGE_WORDS || table < TABLE_WORDS {
+    if image.len() < IMAGE_WORDS || table.len() < TABLE_WORDS {
         return Err(Refusal {
             cause: Cause::NoRoom,
             place: 0,
@@ -36,67 +34,44 @@ pub(crate) fn admit(text: usize, image: usize, table: usize) -> Result<(), Refus
     Ok(())
 }
 
-pub(crate) fn clear(table: &mut [u32])
-    ensures { table.new ≡ replicate (length table.old) 0 }
-{
-    table.fill(0);
-}
-
 // The first that is no token is refused.
 pub(crate) fn check_tokens(text: &[u8]) -> Result<(), Refusal>
     ensures { Checks text.now result }
 {
     let mut look = next_token(text, 0);
-    loop {
-        match look.kind {
-            Kind::Bad(cause) => {
-                return Err(Refusal {
-                    cause,
-                    place: look.start,
-                });
-            }
-            Kind::End => return Ok(()),
-            _ => look = next_token(text, look.end),
+    while look.kind != Kind::End {
+        if let Kind::Bad(cause) = look.kind {
+            return Err(Refusal {
+                cause,
+                place: look.start,
+            });
         }
+        look = next_token(text, look.end);
     }
+    Ok(())
 }
 
 // What a pass that knows the functions found wrong: with the names first, then with the frames.
 pub(crate) fn judge(found: &Pass) -> Result<(), Refusal>
     ensures { Judges found.now result }
 {
-    if let Some(fault) = found.fault {
-        return Err(fault);
-    }
-    if let Some(place) = found.over {
-        return Err(Refusal {
-            cause: Cause::Frame,
-            place,
-        });
-    }
-    Ok(())
-}
-
-// A pass that may be given these, so that there is one.
-fn run(text: &[u8], functions: &[Function], base: usize, image: &mut [u32]) -> Result<Pass, Refusal>
-    requires { (base ≤ 4036) × (Declared text.now functions.now) }
-    ensures { GoesRecipe text.now functions.now base image.old result image.new }
-{
-    match over(text, functions, base, image) {
-        Some(found) => found,
-        None => unreachable(),
+    let too_large = found.over.map(|place| Refusal {
+        cause: Cause::Frame,
+        place,
+    });
+    match found.fault.or(too_large) {
+        Some(refusal) => Err(refusal),
+        None => Ok(()),
     }
 }
 
 // Two passes that write nothing. The first is refused by the grammar and its limits, and finds the functions and how many words there are before theirs.
 // The second knows the functions, so it finds what is wrong with the names and the frames, and where the functions' words begin.
-pub(crate) fn plan(text: &[u8]) -> Result<Pass, Refusal>
+pub(crate) fn plan(text: &[u8]) -> Result<Pass<'_>, Refusal>
     ensures { Plans text.now result }
 {
-    let mut nothing: [u32; 0] = [];
-    let first = run(text, &[], 0, &mut nothing)?;
-    let functions = &first.table[..first.count];
-    let second = run(text, functions, first.past_main, &mut nothing)?;
+    let first = over(text, &[], Base::default(), &mut [])?;
+    let second = over(text, &first.functions, first.past_main, &mut [])?;
     judge(&second)?;
     Ok(second)
 }
@@ -114,8 +89,7 @@ pub(crate) fn write(text: &[u8], plan: &Pass, image: &mut [u32]) -> Result<(), R
     requires { (Planned text.now plan.now) × (4096 ≤ length image.old) }
     ensures { Written text.now image.old result image.new }
 {
-    let functions = &plan.table[..plan.count];
-    let _ = run(text, functions, plan.past_main, image)?;
+    over(text, &plan.functions, plan.past_main, image)?;
     put_head(image, plan.past_functions);
     Ok(())
 }
@@ -137,7 +111,7 @@ pub fn compile(text: &[u8], image: &mut [u32], table: &mut [u32]) -> Result<usiz
     ensures answer { Compiles text.now image.old table.old result image.new table.new }
     ensures meaning { Meaning text.now (length table.old) result image.old image.new }
 {
-    admit(text.len(), image.len(), table.len())?;
-    clear(table);
+    admit(text, image, table)?;
+    table.fill(0);
     translate(text, image)
 }

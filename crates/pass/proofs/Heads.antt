@@ -10,9 +10,9 @@ use Rattle.recipe.specs.Image.{past, words, placed, FN, BACK}
 use Rattle.recipe.specs.Frames.{need}
 use Rattle.recipe.specs.declared.cause.Cause.TheVariants.{UnknownName}
 use Rattle.recipe.specs.declared.cause.Refusal.{Refusal}
-use Rattle.pass.specs.declared.cursor.Output.{Output}
-use Rattle.pass.specs.declared.names.Scope.{Scope}
-use Rattle.pass.specs.Known.{Env, spelled, in_force, force}
+use Rattle.pass.specs.declared.output.Output.{Output}
+use Rattle.pass.specs.declared.names.Variable.{Variable}
+use Rattle.pass.specs.Known.{Env, spelled, in_force}
 use Rattle.pass.specs.Outputs.{emitted, faulted, Made, MadeHead}
 use Rattle.pass.specs.Reads.{ParametersMade}
 use Rattle.pass.proofs.Faults.{earliest-++}
@@ -91,31 +91,31 @@ mutual
       ap (λ fs. fs ++ faults F Γ e) (faults_all_alike F Γ Δ h es) ∙ ap (λ fs. faults_of F Δ es ++ fs) (faults_alike F Γ Δ h e)
 
 -- the first parameter, one more, and the body
-pub parameters_first : (text : List ℕ) (o o₁ o₂ : Output) (empty scope : Scope) (x : Ident) → empty.count ≡ 0 → o₁ ≡ o → o₂ ≡ faulted o₁ (again (spelled (force text empty)) x) →
-    force text scope ≡ record { name = x.name; to = empty.count } ∷ force text empty → ParametersMade text o (one_only x) scope o₂
-parameters_first text o o₁ o₂ empty scope x e a b k = record {
-  known = k ∙ ap (λ n. record { name = x.name; to = n } ∷ in_force text empty.names n) e;
-  out = b ∙ (ap (λ n. faulted o₁ (again (spelled (in_force text empty.names n)) x)) e ∙ ap (λ (p : Output). faulted p []) a);
+pub parameters_first : (o o₁ o₂ : Output) (scope scope' : List Variable) (x : Ident) → scope ≡ [] → o₁ ≡ o → o₂ ≡ faulted o₁ (again (spelled (in_force scope)) x) →
+    in_force scope' ≡ record { name = x.name; to = length scope } ∷ in_force scope → ParametersMade o (one_only x) scope' o₂
+parameters_first o o₁ o₂ scope scope' x e a b k = record {
+  known = k ∙ ap (λ (vs : List Variable). record { name = x.name; to = length vs } ∷ in_force vs) e;
+  out = b ∙ (ap (λ (vs : List Variable). faulted o₁ (again (spelled (in_force vs)) x)) e ∙ ap (λ (p : Output). faulted p []) a);
 }
 
 faulted-++ : (o : Output) (fs gs : List Refusal) → faulted (faulted o fs) gs ≡ faulted o (fs ++ gs)
 faulted-++ o fs gs = ap (λ (f : Option Refusal). record { at = o.at; peak = o.peak; fault = f }) (sym (earliest-++ o.fault fs gs))
 
-pub parameters_more : (text : List ℕ) (o o₁ o₂ o₃ : Output) (before scope : Scope) (xs : Several Ident) (x : Ident) → before.count ≡ size xs → ParametersMade text o xs before o₁ → o₂ ≡ o₁ →
-    o₃ ≡ faulted o₂ (again (spelled (force text before)) x) → force text scope ≡ record { name = x.name; to = before.count } ∷ force text before → ParametersMade text o (and_then xs x) scope o₃
-parameters_more text o o₁ o₂ o₃ before scope xs x s p a b k =
-    let n : before.count ≡ 0 + length (all xs) = omega (arith, s, all_size xs) in
+pub parameters_more : (o o₁ o₂ o₃ : Output) (before scope : List Variable) (xs : Several Ident) (x : Ident) → length before ≡ size xs → ParametersMade o xs before o₁ → o₂ ≡ o₁ →
+    o₃ ≡ faulted o₂ (again (spelled (in_force before)) x) → in_force scope ≡ record { name = x.name; to = length before } ∷ in_force before → ParametersMade o (and_then xs x) scope o₃
+parameters_more o o₁ o₂ o₃ before scope xs x s p a b k =
+    let n : length before ≡ 0 + length (all xs) = omega (arith, s, all_size xs) in
     record {
-      known = k ∙ (ap (λ j. record { name = x.name; to = j } ∷ force text before) n ∙ (ap (λ (Γ : List Bound). record { name = x.name; to = 0 + length (all xs) } ∷ Γ) p.known
+      known = k ∙ (ap (λ j. record { name = x.name; to = j } ∷ in_force before) n ∙ (ap (λ (Γ : List Bound). record { name = x.name; to = 0 + length (all xs) } ∷ Γ) p.known
           ∙ (sym (slots_more [] 0 (all xs) x) ∙ ap (slots [] 0) (sym (all_more xs x)))));
-      out = b ∙ (ap (λ (q : Output). faulted q (again (spelled (force text before)) x)) (a ∙ p.out) ∙ (ap (λ (Γ : List Bound). faulted (faulted o (twice [] (all xs))) (again (spelled Γ) x)) p.known
+      out = b ∙ (ap (λ (q : Output). faulted q (again (spelled (in_force before)) x)) (a ∙ p.out) ∙ (ap (λ (Γ : List Bound). faulted (faulted o (twice [] (all xs))) (again (spelled Γ) x)) p.known
           ∙ (faulted-++ o (twice [] (all xs)) (again (spelled (slots [] 0 (all xs))) x) ∙ ap (faulted o) (sym (twice_more [] 0 (all xs) x) ∙ ap (twice []) (sym (all_more xs x))))));
     }
 
-pub made_head : (text : List ℕ) (v : Env) (m : List ℕ) {o o₁ o₂ o₃ o₄ o₅ : Output} {m₁ m₂ m₃ : List ℕ} {w w' : ℕ} (xs : Several Ident) (scope : Scope) (n : ℕ) (e : Expr) →
-    ParametersMade text o xs scope o₁ → o₂ ≡ o₁ → v.in_scope ≡ force text scope → n ≡ length (all xs) → o₃ ≡ emitted o₂ → m₁ ≡ set m o₂.at w → w ≡ FN n →
+pub made_head : (v : Env) (m : List ℕ) {o o₁ o₂ o₃ o₄ o₅ : Output} {m₁ m₂ m₃ : List ℕ} {w w' : ℕ} (xs : Several Ident) (scope : List Variable) (n : ℕ) (e : Expr) →
+    ParametersMade o xs scope o₁ → o₂ ≡ o₁ → v.in_scope ≡ in_force scope → n ≡ length (all xs) → o₃ ≡ emitted o₂ → m₁ ≡ set m o₂.at w → w ≡ FN n →
     Made v n o₃ m₁ e o₄ m₂ → o₅ ≡ emitted o₄ → m₃ ≡ set m₂ o₄.at w' → w' ≡ BACK → MadeHead v.signatures v.entries o m xs e o₅ m₃
-made_head text v m {o = o} {o₂ = o₂} {o₃ = o₃} {o₄ = o₄} {m₁ = m₁} {m₂ = m₂} xs scope n e p a g c b f fn r d h back =
+made_head v m {o = o} {o₂ = o₂} {o₃ = o₃} {o₄ = o₄} {m₁ = m₁} {m₂ = m₂} xs scope n e p a g c b f fn r d h back =
     let F = v.signatures in
     let Γ = slots [] 0 (all xs) in
     let L = length (all xs) in

@@ -1,28 +1,38 @@
 -- What a name stands for.
-use Rattle.std.proofs.Common.{◌≡◌, ℕ, zero, suc, ◌+◌, ◌<◌, ◌≤◌, Bool, true, false, cond, not, ◌||◌, List, [], ◌∷◌, length, get_or, drop, set, is_some, Some, None, Option, sym, refl, ap, ◌∙◌, inl, inr, add-one, arith, length-set, drop-cons, get_or-set_other, get_or-set_same}
+use Rattle.std.proofs.Common.{◌≡◌, ℕ, Bool, true, false, cond, ◌||◌, List, [], ◌∷◌, ◌++◌, length, map, take, is_some, Some, None, Option, sym, refl, ap, ◌∙◌}
 use mathlib.Core.Option as opt
-use Rattle.std.proofs.lemmas.List.{drop_all}
-use Rattle.std.proofs.lemmas.Bool.Decides.{leb_tells, eqb_tells}
-use Rattle.std.specs.List.{between}
+use Rattle.std.specs.List.{find}
+use Rattle.std.specs.Option.{option_map, option_to_list, MatchOption, IsSomeAnd}
 use Rattle.std.specs.Str.{bytes_eq}
+use Rattle.std.proofs.lemmas.List.{reverse-append}
+use Rattle.std.proofs.Math.Seq.{take-append_seam}
+use Rattle.arrayvec.specs.ArrayVec.{ArrayVec}
 use Rattle.recipe.specs.Tokens.{Ident}
-use Rattle.recipe.specs.Names.{among, arity_of, fault_unless}
-use Rattle.pass.specs.Outputs.{again}
-use Rattle.recipe.specs.Image.{Bound, find}
+use Rattle.std.specs.Bool.{then_some}
+use Rattle.recipe.specs.Names.{among, arity_of}
+use Rattle.pass.specs.Outputs.{again, faulted}
+use Rattle.pass.specs.declared.output.Output.{Output}
+use Rattle.recipe.specs.declared.cause.Refusal.{Refusal}
+use Rattle.recipe.specs.Image.{Bound, find as found}
 use Rattle.recipe.specs.declared.cause.Cause.TheVariants.{DeclaredTwice}
 use Rattle.pass.specs.declared.names.Function.{Function}
 use Rattle.pass.specs.declared.names.Variable.{Variable}
-use Rattle.pass.specs.declared.names.Scope.{Scope}
-use Rattle.pass.specs.Known.{Env, env, force, Scoped, Kept, bound, in_force, spelled, slot_in, nowhere, signed, entered, first_of}
+use Rattle.pass.specs.Known.{Env, env, bound, in_force, spelled, slot_in, signed, entered, first_of}
 
--- variables, from the newest back
-pub slot_here : (text : List ℕ) (names : List Variable) (x : List ℕ) (k j : ℕ) → k ≡ j + 1 →
-    bytes_eq x (between (get_or names j nowhere).start (get_or names j nowhere).end text) ≡ true → slot_in (in_force text names k) x ≡ Some (get_or names j nowhere).slot
-slot_here text names x k j e h = ap (λ n. slot_in (in_force text names n) x) (e ∙ add-one j) ∙ simp h
+-- what `map` gives after a search, where the closure computes h of what v reads
+pub mapped : {A B C : Type 0} (v : A → B) (h : B → C) (P : A → C → Type 0) (o : Option A) (r : Option C) → MatchOption o (r ≡ None) (λ x. IsSomeAnd r (P x)) →
+    ((x : A) (y : C) → P x y → y ≡ h (v x)) → r ≡ option_map h (option_map v o)
+mapped v h P None r e f = e
+mapped v h P (Some x) None e f = absurd e
+mapped v h P (Some x) (Some y) e f = ap Some (f x y e)
 
-pub slot_before : (text : List ℕ) (names : List Variable) (x : List ℕ) (k j : ℕ) → k ≡ j + 1 →
-    bytes_eq x (between (get_or names j nowhere).start (get_or names j nowhere).end text) ≡ false → slot_in (in_force text names k) x ≡ slot_in (in_force text names j) x
-slot_before text names x k j e h = ap (λ n. slot_in (in_force text names n) x) (e ∙ add-one j) ∙ simp h
+-- variables
+pub slot_found : (vs : List Variable) (x : List ℕ) → option_map (λ v. v.slot) (find (λ v. bytes_eq x v.name.now) vs) ≡ slot_in (map bound vs) x
+slot_found [] x = refl
+slot_found (v ∷ vs) x =
+    elim (bytes_eq x v.name.now)
+    as (λ t. option_map (λ (w : Variable). w.slot) (cond t (Some v) (find (λ w. bytes_eq x w.name.now) vs)) ≡ cond t (Some v.slot) (slot_in (map bound vs) x))
+    [ true ↦ refl | false ↦ slot_found vs x ]
 
 pub among_slot : (bs : List Bound) (x : List ℕ) → among (spelled bs) x ≡ is_some (slot_in bs x)
 among_slot [] x = refl
@@ -33,122 +43,77 @@ abbrev pub slot_or : Option ℕ → ℕ
 slot_or None = 0
 slot_or (Some s) = s
 
-pub find_slot : (bs : List Bound) (x : List ℕ) → find bs x ≡ slot_or (slot_in bs x)
+pub find_slot : (bs : List Bound) (x : List ℕ) → found bs x ≡ slot_or (slot_in bs x)
 find_slot [] x = refl
 find_slot (b ∷ bs) x =
-    elim (bytes_eq x b.name) as (λ t. cond t b.to (find bs x) ≡ slot_or (cond t (Some b.to) (slot_in bs x))) [ true ↦ refl | false ↦ find_slot bs x ]
+    elim (bytes_eq x b.name) as (λ t. cond t b.to (found bs x) ≡ slot_or (cond t (Some b.to) (slot_in bs x))) [ true ↦ refl | false ↦ find_slot bs x ]
 
--- functions, from the first on
-pub first_here : (text : List ℕ) (fs : List Function) (x : List ℕ) (k : ℕ) (d : Function) → k < length fs →
-    bytes_eq x (between (get_or fs k d).start (get_or fs k d).end text) ≡ true → first_of text (drop k fs) x ≡ Some (get_or fs k d)
-first_here text fs x k d l h = ap (λ (gs : List Function). first_of text gs x) (drop-cons fs k d l) ∙ simp h
-
-pub first_after : (text : List ℕ) (fs : List Function) (x : List ℕ) (k : ℕ) (d : Function) → k < length fs →
-    bytes_eq x (between (get_or fs k d).start (get_or fs k d).end text) ≡ false → first_of text (drop k fs) x ≡ first_of text (drop (k + 1) fs) x
-first_after text fs x k d l h =
-    let past : first_of text (get_or fs k d ∷ drop (suc k) fs) x ≡ first_of text (drop (suc k) fs) x = simp h in
-    ap (λ (gs : List Function). first_of text gs x) (drop-cons fs k d l) ∙ (past ∙ ap (λ n. first_of text (drop n fs) x) (sym (add-one k)))
-
-pub first_none : (text : List ℕ) (fs : List Function) (x : List ℕ) (k : ℕ) → length fs ≤ k → first_of text (drop k fs) x ≡ None
-first_none text fs x k h = ap (λ (gs : List Function). first_of text gs x) (drop_all k fs h)
-
+-- functions
 abbrev pub arity_at : Option Function → opt.Option ℕ
 arity_at None = opt.none
 arity_at (Some f) = opt.some f.arity
 
-pub arity_first : (text : List ℕ) (fs : List Function) (x : List ℕ) → arity_of (signed text fs) x ≡ arity_at (first_of text fs x)
-arity_first text [] x = refl
-arity_first text (f ∷ fs) x =
-    elim (bytes_eq x (between f.start f.end text))
-    as (λ t. cond t (opt.some f.arity) (arity_of (signed text fs) x) ≡ arity_at (cond t (Some f) (first_of text fs x)))
-    [ true ↦ refl | false ↦ arity_first text fs x ]
+pub arity_first : (fs : List Function) (x : List ℕ) → arity_of (signed fs) x ≡ arity_at (first_of fs x)
+arity_first [] x = refl
+arity_first (f ∷ fs) x =
+    elim (bytes_eq x f.name.now) as (λ t. cond t (opt.some f.arity) (arity_of (signed fs) x) ≡ arity_at (cond t (Some f) (first_of fs x)))
+    [ true ↦ refl | false ↦ arity_first fs x ]
 
 abbrev pub target_at : Option Function → ℕ
 target_at None = 0
 target_at (Some f) = f.target
 
-pub find_first : (text : List ℕ) (fs : List Function) (x : List ℕ) → find (entered text fs) x ≡ target_at (first_of text fs x)
-find_first text [] x = refl
-find_first text (f ∷ fs) x =
-    elim (bytes_eq x (between f.start f.end text))
-    as (λ t. cond t f.target (find (entered text fs) x) ≡ target_at (cond t (Some f) (first_of text fs x)))
-    [ true ↦ refl | false ↦ find_first text fs x ]
+pub find_first : (fs : List Function) (x : List ℕ) → found (entered fs) x ≡ target_at (first_of fs x)
+find_first [] x = refl
+find_first (f ∷ fs) x =
+    elim (bytes_eq x f.name.now) as (λ t. cond t f.target (found (entered fs) x) ≡ target_at (cond t (Some f) (first_of fs x)))
+    [ true ↦ refl | false ↦ find_first fs x ]
+
+pub among_first : (fs : List Function) (x : List ℕ) → among (spelled (entered fs)) x ≡ is_some (first_of fs x)
+among_first [] x = refl
+among_first (f ∷ fs) x =
+    elim (bytes_eq x f.name.now) as (λ t. (t || among (spelled (entered fs)) x) ≡ is_some (cond t (Some f) (first_of fs x)))
+    [ true ↦ refl | false ↦ among_first fs x ]
 
 -- a variable more
-below : (text : List ℕ) (names : List Variable) (v : Variable) (n k : ℕ) → k ≤ n → in_force text (set names n v) k ≡ in_force text names k
-below text names v n zero h = refl
-below text names v n (suc k) h =
-    ap (λ (w : Variable). bound text w ∷ in_force text (set names n v) k) (get_or-set_other names n k v nowhere (λ e. absurd (omega arith)))
-    ∙ ap (λ (bs : List Bound). bound text (get_or names k nowhere) ∷ bs) (below text names v n k (omega arith))
-
-pub with_more : (text : List ℕ) (names : List Variable) (v : Variable) (n : ℕ) → n < length names → in_force text (set names n v) (n + 1) ≡ bound text v ∷ in_force text names n
-with_more text names v n h =
-    ap (in_force text (set names n v)) (add-one n)
-    ∙ (ap (λ (w : Variable). bound text w ∷ in_force text (set names n v) n) (get_or-set_same names n v nowhere h) ∙ ap (λ (bs : List Bound). bound text v ∷ bs) (below text names v n n (omega arith)))
+pub in_force_more : (vs : List Variable) (v : Variable) → in_force (vs ++ (v ∷ [])) ≡ bound v ∷ in_force vs
+in_force_more vs v = ap (map bound) (reverse-append vs (v ∷ []))
 
 -- the names known inside, with a variable more
 abbrev pub deeper : Env → Bound → Env
 deeper v b = record { signatures = v.signatures; entries = v.entries; in_scope = b ∷ v.in_scope }
 
-pub inner_force : (text : List ℕ) (scope inner : Scope) (v : Variable) → scope.count < length scope.names →
-    inner.count ≡ scope.count + 1 → inner.names ≡ set scope.names scope.count v → force text inner ≡ bound text v ∷ force text scope
-inner_force text scope inner v h c n =
-    ap (λ k. in_force text inner.names k) c ∙ (ap (λ (xs : List Variable). in_force text xs (scope.count + 1)) n ∙ with_more text scope.names v scope.count h)
+pub inner_env : (functions : List Function) {before outer inner : ArrayVec Variable} (v : Variable) (x : List ℕ) → outer ≡ before → inner.items ≡ outer.items ++ (v ∷ []) → v.name.now ≡ x →
+    env functions inner.items ≡ deeper (env functions before.items) (record { name = x; to = v.slot })
+inner_env functions {before = before} v x k e n =
+    ap (λ (bs : List Bound). record { signatures = signed functions; entries = entered functions; in_scope = bs })
+    (ap in_force (e ∙ ap (λ (w : ArrayVec Variable). w.items ++ (v ∷ [])) k) ∙ (in_force_more before.items v
+    ∙ ap (λ (y : List ℕ). record { name = y; to = v.slot } ∷ in_force before.items) n))
 
-pub inner_scoped : (text : List ℕ) (scope inner : Scope) (v : Variable) → scope.count < length scope.names → scope.count < 40 →
-    inner.count ≡ scope.count + 1 → inner.names ≡ set scope.names scope.count v → v.start ≤ v.end → v.end ≤ length text → Scoped text scope → Scoped text inner
-inner_scoped text scope inner v h l c n a b s = (
-  omega arith,
-  (λ k d j.
-      elim (eqb_tells k scope.count) [
-        | inl e ↦
-            let g : get_or inner.names k d ≡ v = ap (λ (xs : List Variable). get_or xs k d) n ∙ (ap (λ i. get_or (set scope.names scope.count v) i d) e.1 ∙ get_or-set_same scope.names scope.count v d h) in
-            (omega (arith, ap (λ (x : Variable). x.start) g, ap (λ (x : Variable). x.end) g), omega (arith, ap (λ (x : Variable). x.end) g))
-        | inr e ↦
-            let g : get_or inner.names k d ≡ get_or scope.names k d = ap (λ (xs : List Variable). get_or xs k d) n ∙ get_or-set_other scope.names scope.count k v d e.1 in
-            let f = s.1 k d (elim (leb_tells (suc k) scope.count) [ inl i ↦ omega (arith, i.1) | inr i ↦ absurd (e.1 (omega (arith, i.1))) ]) in
-            (omega (arith, ap (λ (x : Variable). x.start) g, ap (λ (x : Variable). x.end) g, f.0), omega (arith, ap (λ (x : Variable). x.end) g, f.1))
-      ]),
-  ap length n ∙ (length-set scope.names scope.count v ∙ s.2),
-)
+-- a variable more, and no more
+pub put_back : {before outer inner after last : ArrayVec Variable} {n : ℕ} (v : Variable) → outer ≡ before → inner.items ≡ outer.items ++ (v ∷ []) → after ≡ inner →
+    n ≡ length outer.items → last.items ≡ take n after.items → last ≡ before
+put_back {outer = outer} {inner = inner} {after = after} {n = n} v k e i m b =
+    let kept : take n after.items ≡ outer.items =
+    ap (λ j. take j after.items) m ∙ (ap (λ (w : ArrayVec Variable). take (length outer.items) w.items) i
+    ∙ (ap (take (length outer.items)) e ∙ take-append_seam outer.items (v ∷ []))) in
+    ap (λ (xs : List Variable). record { items = xs }) (b ∙ kept) ∙ k
 
-pub again_slot : (bs : List Bound) (x : Ident) (r : Bool) → is_some (slot_in bs x.name) ≡ not r → fault_unless r x.place DeclaredTwice ≡ again (spelled bs) x
-again_slot bs x true e = ap (λ t. cond t (record { place = x.place; cause = DeclaredTwice } ∷ []) []) (sym (among_slot bs x.name ∙ e))
-again_slot bs x false e = ap (λ t. cond t (record { place = x.place; cause = DeclaredTwice } ∷ []) []) (sym (among_slot bs x.name ∙ e))
+-- the fault of a name that stands before
+again_noted : (names : List (List ℕ)) (x : Ident) (t : Bool) → among names x.name ≡ t → option_to_list (then_some t (record { cause = DeclaredTwice; place = x.place })) ≡ again names x
+again_noted names x true e = ap (λ t. cond t (record { place = x.place; cause = DeclaredTwice } ∷ []) []) (sym e)
+again_noted names x false e = ap (λ t. cond t (record { place = x.place; cause = DeclaredTwice } ∷ []) []) (sym e)
 
--- the variables in force before a part of the text, and after it
-pub kept_here : {text : List ℕ} {scope : Scope} → Scoped text scope → Kept text scope scope
-kept_here s = record { counted = refl; same = refl; scoped = s }
+pub noted_again : (o : Output) (names : List (List ℕ)) (x : Ident) {o' : Output} {f : Option Refusal} {r : Refusal} {t : Bool} → o' ≡ faulted o (option_to_list f) → f ≡ then_some t r →
+    r ≡ record { cause = DeclaredTwice; place = x.place } → among names x.name ≡ t → o' ≡ faulted o (again names x)
+noted_again o names x {t = t} a b e k =
+    a ∙ (ap (λ (g : Option Refusal). faulted o (option_to_list g)) (b ∙ ap (then_some t) e) ∙ ap (faulted o) (again_noted names x t k))
 
-pub kept_on : {text : List ℕ} {first second third : Scope} → Kept text first second → Kept text second third → Kept text first third
-kept_on a b = record { counted = b.counted ∙ a.counted; same = b.same ∙ a.same; scoped = b.scoped }
+-- whether a name is found in a list that is another, by the name's bytes
+pub slot_again : {vs ws : List Variable} {x y : List ℕ} {r : Option ℕ} {t : Bool} → r ≡ slot_in (in_force ws) y → ws ≡ vs → y ≡ x → t ≡ is_some r → among (spelled (in_force vs)) x ≡ t
+slot_again {vs = vs} {x = x} {y = y} a e n k =
+    among_slot (in_force vs) x ∙ sym (k ∙ ap is_some (a ∙ (ap (λ (us : List Variable). slot_in (in_force us) y) e ∙ ap (slot_in (in_force vs)) n)))
 
-pub kept_env : {text : List ℕ} (functions : List Function) {before after : Scope} → Kept text before after → env text functions after ≡ env text functions before
-kept_env {text = text} functions k = ap (λ (bs : List Bound). record { signatures = signed text functions; entries = entered text functions; in_scope = bs }) k.same
-
-pub inner_env : (text : List ℕ) (functions : List Function) (before outer inner : Scope) (v : Variable) → Kept text before outer → outer.count < length outer.names →
-    inner.count ≡ outer.count + 1 → inner.names ≡ set outer.names outer.count v → env text functions inner ≡ deeper (env text functions before) (bound text v)
-inner_env text functions before outer inner v k h c n =
-    ap (λ (bs : List Bound). record { signatures = signed text functions; entries = entered text functions; in_scope = bs }) (inner_force text outer inner v h c n ∙ ap (λ (bs : List Bound). bound text v ∷ bs) k.same)
-
-abbrev older : List Bound → List Bound
-older [] = []
-older (b ∷ bs) = bs
-
--- a variable more, and the old count put back
-pub put_back : {text : List ℕ} {before outer inner after last : Scope} (v : Variable) → Kept text before outer → inner.count ≡ outer.count + 1 → inner.names ≡ set outer.names outer.count v →
-    Kept text inner after → last.count ≡ outer.count → last.names ≡ after.names → Kept text before last
-put_back {text = text} {outer = outer} {inner = inner} {after = after} {last = last} v k c n i b m =
-    let more : after.count ≡ suc outer.count = i.counted ∙ (c ∙ add-one outer.count) in
-    let same : in_force text after.names (suc outer.count) ≡ in_force text inner.names (suc outer.count) =
-    ap (in_force text after.names) (sym more) ∙ (i.same ∙ ap (in_force text inner.names) (c ∙ add-one outer.count)) in
-    record {
-      counted = b ∙ k.counted;
-      same = ap (in_force text last.names) b ∙ (ap (λ (xs : List Variable). in_force text xs outer.count) m ∙ (ap older same
-          ∙ (ap (λ (xs : List Variable). in_force text xs outer.count) n ∙ (below text outer.names v outer.count outer.count (omega arith) ∙ k.same))));
-      scoped = (
-        omega (arith, i.scoped.0),
-        (λ j d h. rw m (i.scoped.1 j d (omega arith))),
-        ap length m ∙ i.scoped.2,
-      );
-    }
+pub function_again : {fs gs : List Function} {x y : List ℕ} {r : Option Function} {t : Bool} → r ≡ first_of gs y → gs ≡ fs → y ≡ x → t ≡ is_some r → among (spelled (entered fs)) x ≡ t
+function_again {fs = fs} {x = x} {y = y} a e n k =
+    among_first fs x ∙ sym (k ∙ ap is_some (a ∙ (ap (λ (hs : List Function). first_of hs y) e ∙ ap (first_of fs) n)))

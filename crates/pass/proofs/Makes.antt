@@ -1,12 +1,14 @@
 -- What one output and the next come to together.
-use Rattle.std.proofs.Common.{◌≡◌, ℕ, ◌+◌, max, List, [], ◌∷◌, ◌++◌, set, Option, sym, refl, ap, ◌∙◌, subst, arith}
+use Rattle.std.proofs.Common.{◌≡◌, ℕ, ◌+◌, Bool, true, false, not, max, List, [], ◌∷◌, ◌++◌, set, Option, sym, refl, ap, ◌∙◌, subst, arith}
 use Rattle.recipe.specs.declared.Op.{Op}
 use Rattle.recipe.specs.Tokens.{Ident, Literal}
 use Rattle.recipe.specs.Grammar.{Expr, num, var, op, let_in, ifp, call, weigh, group, Arguments, one, more}
-use Rattle.recipe.specs.Names.{earliest, count}
+use Rattle.std.specs.Bool.{then_some}
+use Rattle.std.specs.Option.{option_to_list}
+use Rattle.recipe.specs.Names.{earliest, count, fault_unless}
 use Rattle.recipe.specs.Image.{past, pasts, words, arguments, placed, find, NUM, VAR, WEIGH, OP, OUT, UNLESS, GO, CALL}
 use Rattle.recipe.specs.Frames.{need, needs}
-use Rattle.pass.specs.declared.cursor.Output.{Output}
+use Rattle.pass.specs.declared.output.Output.{Output}
 use Rattle.recipe.specs.Names.{faults, faults_of, arity_of, call_faults}
 use Rattle.recipe.specs.declared.cause.Refusal.{Refusal}
 use Rattle.pass.specs.Known.{Env, spelled}
@@ -24,6 +26,11 @@ peak_of e = ap (λ (x : Output). x.peak) e
 
 pub fault_of : {o o' : Output} → o ≡ o' → o.fault ≡ o'.fault
 fault_of e = ap (λ (x : Output). x.fault) e
+
+-- a fault unless all is well
+pub noted_unless : (b : Bool) (r : Refusal) → option_to_list (then_some (not b) r) ≡ fault_unless b r.place r.cause
+noted_unless true r = refl
+noted_unless false r = refl
 
 peak_joined : (p h a b p₁ p₂ : ℕ) → p₁ ≡ max p (h + a) → p₂ ≡ max p₁ ((h + 1) + b) → p₂ ≡ max p (h + max a (1 + b))
 peak_joined p h a b p₁ p₂ e f = omega arith
@@ -60,8 +67,8 @@ leaf e w {h = h} {o = o} {m = m} index holds word b c = record {
   written = c ∙ ap (λ (ws : List ℕ). placed m o.at ws) (sym word);
 }
 
-pub made_num : {v : Env} {h : ℕ} {o o₁ : Output} {m m₁ : List ℕ} {w : ℕ} (n : Literal) → o₁ ≡ pushed h o → m₁ ≡ set m o.at w → w ≡ NUM n.value → Made v h o m (num n) o₁ m₁
-made_num {o = o} {m = m} n b c k = leaf (num n) (NUM n.value) (λ i. refl) refl refl b (c ∙ ap (set m o.at) k)
+pub made_num : {v : Env} {h : ℕ} {o o₁ : Output} {m m₁ : List ℕ} (n : Literal) → o₁ ≡ pushed h o → m₁ ≡ set m o.at (NUM n.value) → Made v h o m (num n) o₁ m₁
+made_num n = leaf (num n) (NUM n.value) (λ i. refl) refl refl
 
 pub made_var : {v : Env} {h : ℕ} {o o₁ : Output} {m m₁ : List ℕ} (x : Ident) →
     o₁ ≡ pushed h (faulted o (faults v.signatures (spelled v.in_scope) (var x))) → m₁ ≡ set m o.at (VAR (find v.in_scope x.name)) → Made v h o m (var x) o₁ m₁
@@ -78,19 +85,20 @@ joined_faults p fs gs a b c = c ∙ (ap (λ (x : Option Refusal). earliest x gs)
 pub made_group : {v : Env} {h : ℕ} {o o₁ : Output} {m m₁ : List ℕ} {e : Expr} → Made v h o m e o₁ m₁ → Made v h o m (group e) o₁ m₁
 made_group r = record { index = r.index; peak = r.peak; fault = r.fault; written = r.written }
 
-pub made_op : {v : Env} {h : ℕ} {o o₁ o₃ o₄ : Output} {m m₁ m₂ m₃ : List ℕ} {w : ℕ} {a b : Expr} (x : Op) → Made v h o m a o₁ m₁ → Made v (h + 1) o₁ m₁ b o₃ m₂ → o₄ ≡ emitted o₃ → m₃ ≡ set m₂ o₃.at w → w ≡ OP x → Made v h o m (op x a b) o₄ m₃
-made_op {v = v} {h = h} {o = o} {o₃ = o₃} {m = m} {m₁ = m₁} {m₂ = m₂} {a = a} {b = b} x p n f w k = record {
+pub made_op : {v : Env} {h : ℕ} {o o₁ o₃ o₄ : Output} {m m₁ m₂ m₃ : List ℕ} {a b : Expr} (x : Op) → Made v h o m a o₁ m₁ → Made v (h + 1) o₁ m₁ b o₃ m₂ →
+    o₄ ≡ emitted o₃ → m₃ ≡ set m₂ o₃.at (OP x) → Made v h o m (op x a b) o₄ m₃
+made_op {v = v} {h = h} {o = o} {m = m} {m₁ = m₁} {m₂ = m₂} {a = a} {b = b} x p n f w = record {
   index = at_of f ∙ ap (λ i. i + 1) (n.index ∙ ap (λ i. past i b) p.index);
   peak = peak_of f ∙ peak_joined o.peak h (need a) (need b) _ _ p.peak n.peak;
   fault = fault_of f ∙ joined_faults o.fault (faults v.signatures (spelled v.in_scope) a) (faults v.signatures (spelled v.in_scope) b) p.fault refl n.fault;
   written = placed_two m o.at (words v.entries v.in_scope h o.at a) (words v.entries v.in_scope (h + 1) (past o.at a) b) (OP x)
       (words_past v.entries v.in_scope h o.at a) (words_past v.entries v.in_scope (h + 1) (past o.at a) b) p.written
-      (n.written ∙ ap (λ i. placed m₁ i (words v.entries v.in_scope (h + 1) i b)) p.index) (w ∙ ap (set m₂ o₃.at) k ∙ ap (λ i. set m₂ i (OP x)) (n.index ∙ ap (λ i. past i b) p.index));
+      (n.written ∙ ap (λ i. placed m₁ i (words v.entries v.in_scope (h + 1) i b)) p.index) (w ∙ ap (λ i. set m₂ i (OP x)) (n.index ∙ ap (λ i. past i b) p.index));
 }
 
-pub made_let : {v : Env} {h : ℕ} {o o₁ o₃ o₄ : Output} {m m₁ m₂ m₃ : List ℕ} {w : ℕ} {a b : Expr} (x : Ident) → Made v h o m a o₁ m₁ →
-    Made (deeper v (record { name = x.name; to = h })) (h + 1) o₁ m₁ b o₃ m₂ → o₄ ≡ emitted o₃ → m₃ ≡ set m₂ o₃.at w → w ≡ OUT → Made v h o m (let_in x a b) o₄ m₃
-made_let {v = v} {h = h} {o = o} {o₃ = o₃} {m = m} {m₁ = m₁} {m₂ = m₂} {a = a} {b = b} x p n f w k =
+pub made_let : {v : Env} {h : ℕ} {o o₁ o₃ o₄ : Output} {m m₁ m₂ m₃ : List ℕ} {a b : Expr} (x : Ident) → Made v h o m a o₁ m₁ →
+    Made (deeper v (record { name = x.name; to = h })) (h + 1) o₁ m₁ b o₃ m₂ → o₄ ≡ emitted o₃ → m₃ ≡ set m₂ o₃.at OUT → Made v h o m (let_in x a b) o₄ m₃
+made_let {v = v} {h = h} {o = o} {m = m} {m₁ = m₁} {m₂ = m₂} {a = a} {b = b} x p n f w =
     let Γ = record { name = x.name; to = h } ∷ v.in_scope in
     record {
       index = at_of f ∙ ap (λ i. i + 1) (n.index ∙ ap (λ i. past i b) p.index);
@@ -98,13 +106,13 @@ made_let {v = v} {h = h} {o = o} {o₃ = o₃} {m = m} {m₁ = m₁} {m₂ = m�
       fault = fault_of f ∙ joined_faults o.fault (faults v.signatures (spelled v.in_scope) a) (faults v.signatures (x.name ∷ spelled v.in_scope) b) p.fault refl n.fault;
       written = placed_two m o.at (words v.entries v.in_scope h o.at a) (words v.entries Γ (h + 1) (past o.at a) b) OUT
           (words_past v.entries v.in_scope h o.at a) (words_past v.entries Γ (h + 1) (past o.at a) b) p.written
-          (n.written ∙ ap (λ i. placed m₁ i (words v.entries Γ (h + 1) i b)) p.index) (w ∙ ap (set m₂ o₃.at) k ∙ ap (λ i. set m₂ i OUT) (n.index ∙ ap (λ i. past i b) p.index));
+          (n.written ∙ ap (λ i. placed m₁ i (words v.entries Γ (h + 1) i b)) p.index) (w ∙ ap (λ i. set m₂ i OUT) (n.index ∙ ap (λ i. past i b) p.index));
     }
 
-pub made_ifp : {v : Env} {h : ℕ} {o o₁ o₂ o₃ o₄ o₅ p₁ p₃ : Output} {m m₁ m₂ m₃ m₄ m₅ : List ℕ} {w₁ w₃ : ℕ} {c a b : Expr} →
-    Made v h o m c o₁ m₁ → o₂ ≡ emitted o₁ → Made v h o₂ m₁ a o₃ m₂ → o₄ ≡ emitted o₃ → m₃ ≡ set m₂ p₁.at w₁ → p₁ ≡ o₁ → w₁ ≡ UNLESS o₄.at → Made v h o₄ m₃ b o₅ m₄ →
-    m₅ ≡ set m₄ p₃.at w₃ → p₃ ≡ o₃ → w₃ ≡ GO o₅.at → Made v h o m (ifp c a b) o₅ m₅
-made_ifp {v = v} {h = h} {o = o} {o₂ = o₂} {o₄ = o₄} {o₅ = o₅} {p₁ = p₁} {p₃ = p₃} {m = m} {m₁ = m₁} {m₂ = m₂} {m₃ = m₃} {m₄ = m₄} {c = c} {a = a} {b = b} l e p f u u₁ u₂ n g g₁ g₂ =
+pub made_ifp : {v : Env} {h : ℕ} {o o₁ o₂ o₃ o₄ o₅ p₁ p₃ : Output} {m m₁ m₂ m₃ m₄ m₅ : List ℕ} {c a b : Expr} →
+    Made v h o m c o₁ m₁ → o₂ ≡ emitted o₁ → Made v h o₂ m₁ a o₃ m₂ → o₄ ≡ emitted o₃ → m₃ ≡ set m₂ p₁.at (UNLESS o₄.at) → p₁ ≡ o₁ → Made v h o₄ m₃ b o₅ m₄ →
+    m₅ ≡ set m₄ p₃.at (GO o₅.at) → p₃ ≡ o₃ → Made v h o m (ifp c a b) o₅ m₅
+made_ifp {v = v} {h = h} {o = o} {o₂ = o₂} {o₄ = o₄} {o₅ = o₅} {p₁ = p₁} {p₃ = p₃} {m = m} {m₁ = m₁} {m₂ = m₂} {m₃ = m₃} {m₄ = m₄} {c = c} {a = a} {b = b} l e p f u u₁ n g g₁ =
     let i = o.at in
     let first = past i c + 1 in
     let second = past first a + 1 in
@@ -121,16 +129,17 @@ made_ifp {v = v} {h = h} {o = o} {o₂ = o₂} {o₄ = o₄} {o₅ = o₅} {p₁
       written = placed_choice m i (words v.entries v.in_scope h i c) (words v.entries v.in_scope h first a) (words v.entries v.in_scope h second b) (UNLESS second) (GO (past second b))
           (words_past v.entries v.in_scope h i c) (words_past v.entries v.in_scope h first a) l.written
           (p.written ∙ ap (λ j. placed m₁ j (words v.entries v.in_scope h j a)) at₂)
-          (u ∙ ap (set m₂ p₁.at) u₂ ∙ (ap (λ j. set m₂ j (UNLESS o₄.at)) (at_of u₁ ∙ l.index) ∙ ap (λ j. set m₂ (past i c) (UNLESS j)) at₄))
+          (u ∙ (ap (λ j. set m₂ j (UNLESS o₄.at)) (at_of u₁ ∙ l.index) ∙ ap (λ j. set m₂ (past i c) (UNLESS j)) at₄))
           (n.written ∙ ap (λ j. placed m₃ j (words v.entries v.in_scope h j b)) at₄)
-          (g ∙ ap (set m₄ p₃.at) g₂ ∙ (ap (λ j. set m₄ j (GO o₅.at)) (at_of g₁ ∙ at₃) ∙ ap (λ j. set m₄ (past first a) (GO j)) at₅));
+          (g ∙ (ap (λ j. set m₄ j (GO o₅.at)) (at_of g₁ ∙ at₃) ∙ ap (λ j. set m₄ (past first a) (GO j)) at₅));
     }
 
 -- arguments
 pub made_one : {v : Env} {h : ℕ} {o o₁ : Output} {m m₁ : List ℕ} {e : Expr} → Made v h o m e o₁ m₁ → MadeAll v h o m (one e) o₁ m₁
 made_one r = record { index = r.index; peak = r.peak; fault = r.fault; written = r.written }
 
-pub made_more : {v : Env} {h n : ℕ} {o o₁ o₃ : Output} {m m₁ m₂ : List ℕ} {es : Arguments} {e : Expr} → MadeAll v h o m es o₁ m₁ → n ≡ count es → Made v (h + n) o₁ m₁ e o₃ m₂ → MadeAll v h o m (more es e) o₃ m₂
+pub made_more : {v : Env} {h n : ℕ} {o o₁ o₃ : Output} {m m₁ m₂ : List ℕ} {es : Arguments} {e : Expr} → MadeAll v h o m es o₁ m₁ → n ≡ count es →
+    Made v (h + n) o₁ m₁ e o₃ m₂ → MadeAll v h o m (more es e) o₃ m₂
 made_more {v = v} {h = h} {n = k} {o = o} {o₁ = o₁} {m = m} {m₁ = m₁} {es = es} {e = e} p c n =
     let i = o.at in
     record {

@@ -1,5 +1,5 @@
 -- Declarations one after another.
-use Rattle.std.proofs.Common.{◌≡◌, ℕ, ◌+◌, ◌<◌, cond, ◌⊎◌, List, [], ◌∷◌, ◌++◌, length, take, set, None, Option, sym, refl, ap, ◌∙◌, subst, inl, inr, append_assoc, append-nil, arith}
+use Rattle.std.proofs.Common.{◌≡◌, ℕ, ◌+◌, cond, ◌⊎◌, List, [], ◌∷◌, ◌++◌, length, set, None, Option, sym, refl, ap, ◌∙◌, subst, inl, inr, append_assoc, append-nil, arith}
 use Rattle.recipe.specs.Tokens.{Ident, tokens, TheWord, wrong}
 use Rattle.recipe.specs.declared.Word.TheVariants.{Let}
 use Rattle.recipe.specs.declared.cause.Refusal.{Refusal}
@@ -11,14 +11,14 @@ use Rattle.recipe.specs.Limits.{reading}
 use Rattle.recipe.specs.Names.{earliest, Signature, all, twice, names_of, declared_names, faults, body_faults}
 use Rattle.recipe.specs.Frames.{need}
 use Rattle.recipe.specs.Image.{Bound, past, words, slots, placed, entries, bodies, past_all, FN, BACK}
-use Rattle.pass.specs.declared.cursor.Output.{Output}
+use Rattle.pass.specs.declared.output.Output.{Output}
 use Rattle.pass.specs.declared.cursor.Spot.{Spot}
 use Rattle.pass.specs.declared.names.Function.{Function}
-use Rattle.pass.specs.declared.names.Scope.{Scope}
 use Rattle.pass.specs.declared.passes.Heads.{Heads}
 use Rattle.pass.specs.Known.{Env, ident, spelled, signed, entered}
 use Rattle.pass.specs.Outputs.{emitted, again, over_with, Made, MadeHead, MadeHeads}
-use Rattle.pass.specs.Reads.{ahead, Past, BadHead, Unlimited, PastName, Tabled, added, Added, DeclarationsMade}
+use Rattle.pass.specs.Reads.{ahead, after_declarations, Past, BadHead, Unlimited, PastName, Tabled, Added, DeclarationsMade}
+use Rattle.std.proofs.lemmas.List.{length_push}
 use Rattle.pass.proofs.Faults.{earliest-++, earliest_swap}
 use Rattle.recipe.proofs.Outputs.{words_past, bodies_past, placed-++}
 use Rattle.pass.proofs.Makes.{at_of, peak_of, fault_of, knowing}
@@ -90,75 +90,78 @@ heads_more {F = F} {Φ = Φ} {base = base} {o = o} {m = m} {m₁ = m₁} {ds = d
           ∙ (sym (placed-++ m base i (bodies Φ base ds) (own i) (bodies_past Φ base ds)) ∙ ap (placed m base) (sym (bodies-++ Φ base ds (d ∷ []))))));
     }
 
--- what a declaration more comes to, and the tables
-abbrev Both : List ℕ → List Function → ℕ → List ℕ → List Declaration → Heads → List ℕ → Type 0
-Both text functions base m ds h m' = MadeHeads (signed text functions) (entered text functions) base m ds h.next.out m' × Tabled text base ds h
+-- what a declaration more comes to, and the functions found
+abbrev Both : List Function → ℕ → List ℕ → List Declaration → Heads → List ℕ → Type 0
+Both functions base m ds h m' = MadeHeads (signed functions) (entered functions) base m ds h.next.out m' × Tabled base ds h
 
-both_more : (text : List ℕ) (functions : List Function) (base : ℕ) {m m₁ m₂ : List ℕ} {ds : List Declaration} {h h' : Heads} → length h.table ≡ 32 → Both text functions base m ds h m₁ →
-    (r : Added text functions h m₁ h' m₂) → Both text functions base m (ds ++ (declare (ident text h.next.look) r.headed.read.names r.headed.read.tree ∷ [])) (added h r.declared) m₂
-both_more text functions base {ds = ds} {h = h} s b r =
+both_more : (text : List ℕ) (functions : List Function) (base : ℕ) {m m₁ m₂ : List ℕ} {ds : List Declaration} {h h' : Heads} → Both functions base m ds h m₁ →
+    (r : Added text functions h m₁ h' m₂) → Both functions base m (ds ++ (declare (ident text h.next.look) r.headed.read.names r.headed.read.tree ∷ [])) h' m₂
+both_more text functions base {m = m} {m₂ = m₂} {ds = ds} {h = h} b r =
     let f = ident text h.next.look in
     let xs = r.headed.read.names in
     let e = r.headed.read.tree in
     let n = r.named in
-    let room : h.count < length h.table = omega (arith, s, n.few) in
+    let more = ds ++ (declare f xs e ∷ []) in
     let peak : r.declared.next.out.peak ≡ length (all xs) + need e = r.headed.made.peak ∙ omega (arith, n.peak) in (
-      heads_more f b.0 n.index n.fault b.1.enters r.headed.made,
+      subst (λ (s : Spot). MadeHeads (signed functions) (entered functions) base m more s.out m₂) (sym r.more.next) (heads_more f b.0 n.index n.fault b.1.enters r.headed.made),
       record {
-        framed = ap (λ k. over_with h.over k f.place) peak ∙ (ap (λ (o : Option ℕ). over_with o (length (all xs) + need e) f.place) b.1.framed ∙ sym (over_all-++ None ds (declare f xs e ∷ [])));
-        signs = signs_more text xs e h.next h.table h.count r.declared.arity ds room r.headed.counted b.1.signs;
-        enters = enters_more text base xs e h.next h.table h.count r.declared.arity ds room b.0.index b.1.enters;
+        framed = r.more.over ∙ (ap (λ k. over_with h.over k f.place) peak ∙ (ap (λ (o : Option ℕ). over_with o (length (all xs) + need e) f.place) b.1.framed
+            ∙ sym (over_all-++ None ds (declare f xs e ∷ []))));
+        signs = signs_more xs e ds r.more r.headed.counted b.1.signs;
+        enters = enters_more base xs e ds r.more b.0.index b.1.enters;
       },
     )
 
-pub recipe_first : (text : List ℕ) (functions : List Function) (base : ℕ) {m m' : List ℕ} {p : ℕ} {begins first : Spot} {none h : Heads} → begins.out.at ≡ base → begins.out.fault ≡ None → begins.count ≡ 0 →
-    tokens text ≡ ahead text begins → Past text begins (TheWord p Let) first → first.count ≡ begins.count → (none.next ≡ first) × (none.over ≡ None) × (length none.table ≡ 32) × (none.count ≡ 0) →
+-- the first declaration, before which there are none
+pub recipe_first : (text : List ℕ) (functions : List Function) (base : ℕ) {m m' : List ℕ} {p : ℕ} {begins : Spot} {none h : Heads} → begins.out.at ≡ base → begins.out.fault ≡ None → begins.count ≡ 0 →
+    tokens text ≡ ahead text begins → Past text begins (TheWord p Let) none.next → none.next.count ≡ begins.count → none.over ≡ None → none.functions.items ≡ [] →
     Added text functions none m h m' → DeclarationsMade text functions base m h m'
 unfolding declarations_first
-recipe_first text functions base {m = m} {m' = m'} {p = p} {begins = begins} {none = none} a f z t o c k r =
-    let P : Spot → Type 0 = λ x. Past text begins (TheWord p Let) x × (x.count ≡ begins.count) in
-    let q = subst P (sym k.0) (o, c) in
-    let b = both_more text functions base {m = m} {ds = []} k.2 (
-      record { index = at_of q.0.out ∙ a; fault = fault_of q.0.out ∙ f; written = refl },
-      record { framed = k.1; signs = ap (λ n. signed text (take n none.table)) k.3; enters = ap (λ n. entered text (take n none.table)) k.3 },
+recipe_first text functions base {m = m} {none = none} {h = h} a f z t o c v k r =
+    let b = both_more text functions base {m = m} {ds = []} (
+      record { index = at_of o.out ∙ a; fault = fault_of o.out ∙ f; written = refl },
+      record { framed = v; signs = ap signed k; enters = ap entered k },
     ) r in
-    let d = declarations_first (length text) (ident text none.next.look) (t ∙ q.0.token) r.named.token (r.named.same ∙ (q.1 ∙ z)) r.headed.read in
-    subst (λ (x : Heads). DeclarationsMade text functions base m x m') (sym r.is) (record { read = record { declared = d.declared; sized = omega (arith, k.3); goes = d.goes }; made = b.0; found = b.1 })
+    let d = declarations_first (length text) (ident text none.next.look) (t ∙ o.token) r.named.token (r.named.same ∙ (c ∙ z)) r.headed.read in
+    let n : length h.functions.items ≡ 1 = ap length r.more.listed ∙ ap (λ (fs : List Function). length (fs ++ (r.more.function ∷ []))) k in
+    let g = subst (λ (s : Spot). reading (length text) start 0 (tokens text) ≡ reading (length text) (after_declarations d.declared) s.count (ahead text s)) (sym r.more.next) d.goes in
+    record { read = record { declared = d.declared; sized = sym n; goes = g }; made = b.0; found = b.1 }
 
-pub recipe_first_bad : (text : List ℕ) {p : ℕ} {begins first : Spot} {none : Heads} (e : Refusal) → begins.count ≡ 0 → tokens text ≡ ahead text begins → Past text begins (TheWord p Let) first →
-    first.count ≡ begins.count → (none.next ≡ first) × (none.over ≡ None) × (length none.table ≡ 32) × (none.count ≡ 0) →
-    Unlimited text none.next none.count e ⊎ ((s : Spot) × PastName text none s × BadHead (length text) s.count (ahead text s) (cause_number e.cause) e.place) →
+pub recipe_first_bad : (text : List ℕ) {p : ℕ} {begins : Spot} {none : Heads} (e : Refusal) → begins.count ≡ 0 → tokens text ≡ ahead text begins → Past text begins (TheWord p Let) none.next →
+    none.next.count ≡ begins.count → none.functions.items ≡ [] →
+    Unlimited text none.next (length none.functions.items) e ⊎ ((s : Spot) × PastName text none s × BadHead (length text) s.count (ahead text s) (cause_number e.cause) e.place) →
     reading (length text) start 0 (tokens text) ≡ wrong (cause_number e.cause) e.place
-recipe_first_bad text {p = p} {begins = begins} {none = none} e z t o c k b =
-    let P : Spot → Type 0 = λ x. Past text begins (TheWord p Let) x × (x.count ≡ begins.count) in
-    let q = subst P (sym k.0) (o, c) in
+recipe_first_bad text {none = none} e z t o c k b =
     elim b [
       | inl u ↦ elim u [
-        | inl g ↦ rw (g.0.0, g.0.1) (ap (reading (length text) start 0) (t ∙ q.0.token) ∙ no_first (length text) (ahead text none.next) g.1)
-        | inr g ↦ absurd (omega (arith, g.0, k.3))
+        | inl g ↦ rw (g.0.0, g.0.1) (ap (reading (length text) start 0) (t ∙ o.token) ∙ no_first (length text) (ahead text none.next) g.1)
+        | inr g ↦ absurd (omega (arith, g.0, ap length k))
       ]
-      | inr g ↦ declarations_first_bad (length text) (ident text none.next.look) (t ∙ q.0.token) g.1.token (g.1.same ∙ (q.1 ∙ z)) g.2
+      | inr g ↦ declarations_first_bad (length text) (ident text none.next.look) (t ∙ o.token) g.1.token (g.1.same ∙ (c ∙ z)) g.2
     ]
 
-pub recipe_more : (text : List ℕ) (functions : List Function) (base : ℕ) {m m₁ m₂ : List ℕ} {h h' : Heads} → length h.table ≡ 32 → DeclarationsMade text functions base m h m₁ →
+pub recipe_more : (text : List ℕ) (functions : List Function) (base : ℕ) {m m₁ m₂ : List ℕ} {h h' : Heads} → DeclarationsMade text functions base m h m₁ →
     Added text functions h m₁ h' m₂ → DeclarationsMade text functions base m h' m₂
 unfolding declarations_more
-recipe_more text functions base {m = m} {m₂ = m₂} {h = h} s g r =
+recipe_more text functions base {m = m} {m₂ = m₂} {h = h} {h' = h'} g r =
     let f = ident text h.next.look in
-    let b = both_more text functions base s (g.made, g.found) r in
+    let b = both_more text functions base (g.made, g.found) r in
     let same = sym (all_more g.read.declared (declare f r.headed.read.names r.headed.read.tree)) in
-    subst (λ (x : Heads). DeclarationsMade text functions base m x m₂) (sym r.is) (record {
-      read = declarations_more (length text) f g.read r.named.token r.named.few r.named.same r.headed.read;
-      made = subst (λ (ds : List Declaration). MadeHeads (signed text functions) (entered text functions) base m ds r.declared.next.out m₂) same b.0;
-      found = subst (λ (ds : List Declaration). Tabled text base ds (added h r.declared)) same b.1;
-    })
+    let d = declarations_more (length text) f g.read r.named.token r.named.few r.named.same r.headed.read in
+    let n : length h'.functions.items ≡ length h.functions.items + 1 = ap length r.more.listed ∙ length_push h.functions.items r.more.function in
+    let goes = subst (λ (s : Spot). reading (length text) start 0 (tokens text) ≡ reading (length text) (after_declarations d.declared) s.count (ahead text s)) (sym r.more.next) d.goes in
+    record {
+      read = record { declared = d.declared; sized = d.sized ∙ sym n; goes = goes };
+      made = subst (λ (ds : List Declaration). MadeHeads (signed functions) (entered functions) base m ds h'.next.out m₂) same b.0;
+      found = subst (λ (ds : List Declaration). Tabled base ds h') same b.1;
+    }
 
 -- the main expression after the declarations
-pub main_made : (text : List ℕ) {F : List Signature} {Φ : List Bound} (base : ℕ) (m : List ℕ) (ds : List Declaration) (e : Expr) (scope : Scope) {v : Env} {o o₁ o₂ : Output} {m₁ m₂ m₃ : List ℕ} {w : ℕ} →
+pub main_made : {F : List Signature} {Φ : List Bound} (base : ℕ) (m : List ℕ) (ds : List Declaration) (e : Expr) {v : Env} {o o₁ o₂ : Output} {m₁ m₂ m₃ : List ℕ} {w : ℕ} →
     v ≡ record { signatures = F; entries = Φ; in_scope = [] } → o.at ≡ 1 → o.peak ≡ 0 → o.fault ≡ earliest None (twice [] (declared_names ds) ++ body_faults F ds) → m₁ ≡ placed m base (bodies Φ base ds) →
     Made v 0 o m₁ e o₁ m₂ → o₂ ≡ emitted o₁ → m₃ ≡ set m₂ o₁.at w → w ≡ BACK →
     (o₂.at ≡ past 1 e + 1) × (o₂.peak ≡ need e) × (o₂.fault ≡ earliest None (twice [] (declared_names ds) ++ (body_faults F ds ++ faults F [] e))) × (m₃ ≡ placed (placed m base (bodies Φ base ds)) 1 (words Φ [] 0 1 e ++ (BACK ∷ [])))
-main_made text {F = F} {Φ = Φ} base m ds e scope {o = o} {o₁ = o₁} {m₁ = m₁} {m₂ = m₂} k a z f g r' b h back =
+main_made {F = F} {Φ = Φ} base m ds e {o = o} {o₁ = o₁} {m₁ = m₁} {m₂ = m₂} k a z f g r' b h back =
     let r = knowing k r' in
     let at₁ = r.index ∙ ap (λ i. past i e) a in (
       at_of b ∙ ap (λ i. i + 1) at₁,

@@ -1,20 +1,24 @@
 -- What one call's promise and the next one's give together.
-use Rattle.std.proofs.Common.{◌≡◌, ℕ, ◌+◌, ◌<◌, ◌≤◌, Bool, true, false, cond, leb, List, [], ◌∷◌, sym, refl, ap, ◌∙◌, subst, arith}
+use Rattle.std.proofs.Common.{◌≡◌, ℕ, ◌+◌, ◌<◌, ◌≤◌, false, cond, leb, ◌==◌, List, [], ◌∷◌, get_or, inl, inr, sym, refl, ap, ◌∙◌, arith}
 use mathlib.Core.Option.{Option, none, some}
+use Rattle.std.specs.Prelude.{None}
 use Rattle.std.proofs.lemmas.Bool.{le-leb, lt-leb}
+use Rattle.std.proofs.lemmas.Bool.Decides.{eqb_tells}
 use Rattle.recipe.specs.declared.Op.{Op}
 use Rattle.recipe.specs.declared.Op.TheVariants.{Plus, Minus, Times, Over}
 use Rattle.recipe.specs.declared.Word.{Word}
 use Rattle.recipe.specs.declared.Word.TheVariants.{Let, In, Ifp, Then, Else, Weigh, Open, Close, Comma, Equals}
 use Rattle.recipe.specs.Tokens.{Ident, Literal, Token, Number, Name, Operator, TheWord, Bad, Verdict, fine, wrong}
-use Rattle.recipe.specs.Grammar.{Expr, num, var, op, let_in, ifp, call, weigh, group, Arguments, one, more, Several, one_only, and_then, Declaration, declare, Recipe, recipe, JoinsProducts, by_plus, by_minus, JoinsAtoms, by_times, by_over}
-use Rattle.recipe.specs.Machine.{Left, nothing, left, apply, Context, in_body, in_main, let_value, let_body, if_test, if_then, if_else, bracket, argument, State, start, first_head, head_open, head_name, head_next, head_equals, want, let_name, let_equals, operand, weighed, named, after_product, after_sum, after_expr}
+use Rattle.recipe.specs.Grammar.{Expr, num, var, op, let_in, ifp, call, weigh, group, Arguments, one, more, Several, one_only, and_then, Declaration, declare, Recipe, recipe, by_plus, by_minus, by_times, by_over}
+use Rattle.recipe.specs.Machine.{code, Left, nothing, left, apply, Context, in_body, in_main, let_value, let_body, if_test, if_then, if_else, bracket, argument, State, start, first_head, head_open, head_name, head_next, head_equals, want, let_name, let_equals, operand, weighed, named, after_product, after_sum, after_expr}
 use Rattle.recipe.specs.Limits.{depth, unless, reading, size}
 use Rattle.lexer.specs.Lexed.{token_of, then_from}
 use Rattle.lexer.specs.declared.Kind.{Kind}
 use Rattle.lexer.specs.declared.Kind.TheVariants.{Number as KNumber, Name as KName, Operator as KOperator, Word as KWord, Bad as KBad, End as KEnd}
 use Rattle.recipe.specs.Theorem.{first_place}
-use Rattle.pass.specs.Reads.{IsWord, IsName, Adds, Multiplies, Additive, Multiplicative, OtherWord, NoName, Read, BadFrom, an_expr, a_sum, a_product, an_atom, a_call, arguments_so_far, product_so_far, sum_so_far, from_expr, from_sum, from_product, from_atom, from_call, after_arguments, NamesSoFar, ReadHead, BadHead, DeclarationsSoFar, after_declarations}
+use Rattle.pass.specs.declared.chain.Chain.{Chain}
+use Rattle.pass.specs.declared.chain.Chain.TheVariants.{Sum, Product}
+use Rattle.pass.specs.Reads.{Missing, OtherWord, NoName, JoinsIn, GoesOn, Read, BadFrom, an_expr, an_atom, a_call, an_operand, a_chain, chain_so_far, arguments_so_far, from_expr, from_atom, from_call, from_operand, from_chain, begins, after_operand, after_operator, after_chain, after_arguments, NamesSoFar, ReadHead, BadHead, DeclarationsSoFar, after_declarations}
 
 -- Limits that are kept, and limits that are not.
 pub room : (n p : ℕ) (v : Verdict Recipe) → n ≤ 2000 → unless (cond (leb n 2000) 0 14) p v ≡ v
@@ -36,35 +40,52 @@ known_token text p e {us = us} q d = d ∙ ap (λ j. token_of text j p e ∷ us)
 pub known_ahead : (text : List ℕ) {k k' : Kind} (p e : ℕ) → k ≡ k' → then_from text k p e ≡ then_from text k' p e
 known_ahead text p e q = ap (λ j. then_from text j p e) q
 
-pub other : (text : List ℕ) (w : Word) (k : Kind) (p e : ℕ) → IsWord false w k → OtherWord w (then_from text k p e)
+-- Words are told apart by their numbers.
+abbrev word_at : ℕ → Word
+word_at n = get_or (Let ∷ In ∷ Ifp ∷ Then ∷ Else ∷ Weigh ∷ Open ∷ Close ∷ Comma ∷ Equals ∷ []) n Let
+
+word_back : (w : Word) → word_at (code w) ≡ w
+word_back Let = refl
+word_back In = refl
+word_back Ifp = refl
+word_back Then = refl
+word_back Else = refl
+word_back Weigh = refl
+word_back Open = refl
+word_back Close = refl
+word_back Comma = refl
+word_back Equals = refl
+
+other_word : (w v : Word) → (v ≡ w → ⊥) → (code w == code v) ≡ false
+other_word w v h = elim (eqb_tells (code w) (code v)) [
+  | inl e ↦ absurd (h (sym (word_back v) ∙ (ap word_at (sym e.1) ∙ word_back w)))
+  | inr e ↦ e.0
+]
+
+-- A kind that is not asked for, and what it says of the tokens.
+pub other : (text : List ℕ) (w : Word) (k : Kind) (p e : ℕ) → (k ≡ KWord w → ⊥) → OtherWord w (then_from text k p e)
 other text w (KNumber n) p e h = tt
 other text w KName p e h = tt
 other text w (KOperator o) p e h = tt
-other text w (KWord v) p e h = h
+other text w (KWord v) p e h = other_word w v (λ q. h (ap KWord q))
 other text w (KBad c) p e h = tt
 other text w KEnd p e h = tt
 
-pub unnamed : (text : List ℕ) (k : Kind) (p e : ℕ) → IsName false k → NoName (then_from text k p e)
-unnamed text (KNumber n) p e h = tt
-unnamed text KName p e h = absurd h
-unnamed text (KOperator o) p e h = tt
-unnamed text (KWord v) p e h = tt
-unnamed text (KBad c) p e h = tt
-unnamed text KEnd p e h = tt
+pub nameless : (text : List ℕ) (k : Kind) (p e : ℕ) → (k ≡ KName → ⊥) → NoName (then_from text k p e)
+nameless text (KNumber n) p e h = tt
+nameless text KName p e h = absurd (h refl)
+nameless text (KOperator o) p e h = tt
+nameless text (KWord v) p e h = tt
+nameless text (KBad c) p e h = tt
+nameless text KEnd p e h = tt
 
-pub additive_of : (r : Bool) (k : Kind) (o : Op) → k ≡ KOperator o → Adds r o → Additive r k
-additive_of true k o e h = (o, e, h)
-additive_of false k Plus e h = absurd h
-additive_of false k Minus e h = absurd h
-additive_of false k Times e h = subst (Additive false) (sym e) tt
-additive_of false k Over e h = subst (Additive false) (sym e) tt
-
-pub multiplicative_of : (r : Bool) (k : Kind) (o : Op) → k ≡ KOperator o → Multiplies r o → Multiplicative r k
-multiplicative_of true k o e h = (o, e, h)
-multiplicative_of false k Plus e h = subst (Multiplicative false) (sym e) tt
-multiplicative_of false k Minus e h = subst (Multiplicative false) (sym e) tt
-multiplicative_of false k Times e h = absurd h
-multiplicative_of false k Over e h = absurd h
+pub missing : (text : List ℕ) (kind k : Kind) (p e : ℕ) → (k ≡ kind → ⊥) → Missing kind (then_from text k p e)
+missing text (KNumber n) k p e h = tt
+missing text KName k p e h = nameless text k p e h
+missing text (KOperator o) k p e h = tt
+missing text (KWord w) k p e h = other text w k p e h
+missing text (KBad c) k p e h = tt
+missing text KEnd k p e h = tt
 
 module _ (len : ℕ) where
   -- another number for the same count
@@ -72,8 +93,8 @@ module _ (len : ℕ) where
   recount q ts e = ap (λ c. reading len q c ts) (sym e)
 
   -- arguments
-  unfoldable pub arguments_first : {d n m : ℕ} {ts us : List Token} → Read an_expr len (d + 1) n ts m us → Read arguments_so_far len d n ts m us
-  arguments_first r = record { tree = one r.tree; goes = λ S P f k e. r.goes (argument S P f none k) (ap (λ x. x + 1) e) }
+  unfoldable pub arguments_first : {d n m : ℕ} {ts us : List Token} → Read an_expr len d n ts m us → Read arguments_so_far len d n ts m us
+  arguments_first r = record { tree = one r.tree; goes = λ S P f k e. r.goes (argument S P f none k) e }
 
   pub arguments_go_on : (S P : Left) (f : Ident) (es : Arguments) (k : Context) (n p : ℕ) (ts : List Token) → depth k + 1 ≤ 32 → n ≤ 2000 →
       reading len (after_arguments S P f es k) n (TheWord p Comma ∷ ts) ≡ reading len (want (argument S P f (some es) k)) n ts
@@ -85,21 +106,21 @@ module _ (len : ℕ) where
   arguments_end S P f (one e) k n p ts h = room n p _ h
   arguments_end S P f (more es e) k n p ts h = room n p _ h
 
-  pub arguments_on : {d n m p : ℕ} {ts us vs : List Token} (s : Read arguments_so_far len d n ts m us) → us ≡ TheWord p Comma ∷ vs → d < 32 → m ≤ 2000 →
-      (S P : Left) (f : Ident) (k : Context) → depth k ≡ d → reading len (want (argument S P f none k)) n ts ≡ reading len (want (argument S P f (some s.tree) k)) m vs
+  pub arguments_on : {d n m p : ℕ} {ts us vs : List Token} (s : Read arguments_so_far len d n ts m us) → us ≡ TheWord p Comma ∷ vs → d ≤ 32 → m ≤ 2000 →
+      (S P : Left) (f : Ident) (k : Context) → depth k + 1 ≡ d → reading len (want (argument S P f none k)) n ts ≡ reading len (want (argument S P f (some s.tree) k)) m vs
   arguments_on {m = m} {p = p} {vs = vs} s a g h S P f k e =
       s.goes S P f k e ∙ (ap (reading len (after_arguments S P f s.tree k) m) a ∙ arguments_go_on S P f s.tree k m p vs (omega arith) h)
 
-  unfoldable pub arguments_more : {d n m m₁ m₂ p : ℕ} {ts us vs ws : List Token} → Read arguments_so_far len d n ts m us → us ≡ TheWord p Comma ∷ vs → d < 32 → m ≤ 2000 → m₁ ≡ m →
-      Read an_expr len (d + 1) m₁ vs m₂ ws → Read arguments_so_far len d n ts m₂ ws
+  unfoldable pub arguments_more : {d n m m₁ m₂ p : ℕ} {ts us vs ws : List Token} → Read arguments_so_far len d n ts m us → us ≡ TheWord p Comma ∷ vs → d ≤ 32 → m ≤ 2000 → m₁ ≡ m →
+      Read an_expr len d m₁ vs m₂ ws → Read arguments_so_far len d n ts m₂ ws
   arguments_more {vs = vs} s a g h c r = record {
     tree = more s.tree r.tree;
-    goes = λ S P f k e. arguments_on s a g h S P f k e ∙ (recount _ vs c ∙ r.goes (argument S P f (some s.tree) k) (ap (λ x. x + 1) e));
+    goes = λ S P f k e. arguments_on s a g h S P f k e ∙ (recount _ vs c ∙ r.goes (argument S P f (some s.tree) k) e);
   }
 
-  pub arguments_more_bad : {d n m m₁ p c q : ℕ} {ts us vs : List Token} → Read arguments_so_far len d n ts m us → us ≡ TheWord p Comma ∷ vs → d < 32 → m ≤ 2000 → m₁ ≡ m →
-      BadFrom from_expr len (d + 1) m₁ vs c q → BadFrom from_call len d n ts c q
-  arguments_more_bad {vs = vs} s a g h i b = record { stops = λ S P f k e. arguments_on s a g h S P f k e ∙ (recount _ vs i ∙ b.stops (argument S P f (some s.tree) k) (ap (λ x. x + 1) e)) }
+  pub arguments_more_bad : {d n m m₁ p c q : ℕ} {ts us vs : List Token} → Read arguments_so_far len d n ts m us → us ≡ TheWord p Comma ∷ vs → d ≤ 32 → m ≤ 2000 → m₁ ≡ m →
+      BadFrom from_expr len d m₁ vs c q → BadFrom from_call len d n ts c q
+  arguments_more_bad {vs = vs} s a g h i b = record { stops = λ S P f k e. arguments_on s a g h S P f k e ∙ (recount _ vs i ∙ b.stops (argument S P f (some s.tree) k) e) }
 
   unfoldable pub arguments_done : {d n m m₁ p : ℕ} {ts us vs : List Token} → Read arguments_so_far len d n ts m us → us ≡ TheWord p Close ∷ vs → m ≤ 2000 → m₁ ≡ m → Read a_call len d n ts m₁ vs
   arguments_done {m = m} {p = p} {vs = vs} s a h c = record {
@@ -157,8 +178,8 @@ module _ (len : ℕ) where
       name_on n f a c h S P k ∙ (ap (reading len (named S P f k) m) b ∙ (deep (depth k + 1) m p _ (omega arith) h ∙ recount _ vs i))
 
   unfoldable pub call_read : {d n m m₁ m₂ p : ℕ} {ts us vs ws : List Token} (f : Ident) → ts ≡ Name f ∷ us → m ≡ n + 1 → m ≤ 2000 → us ≡ TheWord p Open ∷ vs → d < 32 → m₁ ≡ m →
-      Read a_call len d m₁ vs m₂ ws → Read an_atom len d n ts m₂ ws
-  call_read {n = n} f a c h b g i r = record { tree = call f r.tree; goes = λ S P k e. call_on n f a c h b g i S P k e ∙ r.goes S P f k e }
+      Read a_call len (d + 1) m₁ vs m₂ ws → Read an_atom len d n ts m₂ ws
+  call_read {n = n} f a c h b g i r = record { tree = call f r.tree; goes = λ S P k e. call_on n f a c h b g i S P k e ∙ r.goes S P f k (ap (λ x. x + 1) e) }
 
   pub weigh_on : (n : ℕ) {m p : ℕ} {ts us : List Token} → ts ≡ TheWord p Weigh ∷ us → m ≡ n + 1 → m ≤ 2000 →
       (S P : Left) (k : Context) → reading len (operand S P k) n ts ≡ reading len (weighed S P k) m us
@@ -197,91 +218,84 @@ module _ (len : ℕ) where
         bracket_on n a h g c S P k e ∙ (r.goes (bracket S P k) (ap (λ x. x + 1) e) ∙ unclosed r.tree S P k m₁ vs o);
   }
 
-  -- products
-  pub product_on_from : {d n m m₁ p : ℕ} {ts us vs : List Token} {o : Op} → (s : Read product_so_far len d n ts m us) → us ≡ Operator p o ∷ vs → JoinsAtoms o → m₁ ≡ m + 1 → m₁ ≤ 2000 →
-      (S : Left) (k : Context) → depth k ≡ d → reading len (operand S nothing k) n ts ≡ reading len (operand S (left s.tree o) k) m₁ vs
-  product_on_from {m = m} {p = p} {vs = vs} s a by_times c h S k e =
+  -- sums and products
+  pub chain_on : (chain : Chain) {d n m m₁ p : ℕ} {ts us vs : List Token} {o : Op} → (s : Read (chain_so_far chain) len d n ts m us) →
+      us ≡ Operator p o ∷ vs → JoinsIn chain o → m₁ ≡ m + 1 → m₁ ≤ 2000 →
+      (S : Left) (k : Context) → depth k ≡ d → reading len (operand (begins chain S) nothing k) n ts ≡ reading len (after_operator chain S s.tree o k) m₁ vs
+  chain_on Sum {m = m} {p = p} {vs = vs} s a by_plus c h S k e =
+      s.goes S k e ∙ (ap (reading len (after_sum s.tree k) m) a ∙ (room (m + 1) p _ (omega arith) ∙ recount _ vs c))
+  chain_on Sum {m = m} {p = p} {vs = vs} s a by_minus c h S k e =
+      s.goes S k e ∙ (ap (reading len (after_sum s.tree k) m) a ∙ (room (m + 1) p _ (omega arith) ∙ recount _ vs c))
+  chain_on Product {m = m} {p = p} {vs = vs} s a by_times c h S k e =
       s.goes S k e ∙ (ap (reading len (after_product S s.tree k) m) a ∙ (room (m + 1) p _ (omega arith) ∙ recount _ vs c))
-  product_on_from {m = m} {p = p} {vs = vs} s a by_over c h S k e =
+  chain_on Product {m = m} {p = p} {vs = vs} s a by_over c h S k e =
       s.goes S k e ∙ (ap (reading len (after_product S s.tree k) m) a ∙ (room (m + 1) p _ (omega arith) ∙ recount _ vs c))
 
-  unfoldable pub product_first : {d n m : ℕ} {ts us : List Token} → Read an_atom len d n ts m us → Read product_so_far len d n ts m us
-  product_first r = record { tree = r.tree; goes = λ S k e. r.goes S nothing k e }
+  pub first_goes : (chain : Chain) {d n m : ℕ} {ts us : List Token} (r : Read (an_operand chain) len d n ts m us) →
+      (S : Left) (k : Context) → depth k ≡ d → reading len (operand (begins chain S) nothing k) n ts ≡ reading len (after_operand chain S r.tree k) m us
+  first_goes Sum r S k e = r.goes nothing k e
+  first_goes Product r S k e = r.goes S nothing k e
 
-  unfoldable pub product_more : {d n m m₁ m₂ p : ℕ} {ts us vs ws : List Token} {o : Op} → Read product_so_far len d n ts m us → us ≡ Operator p o ∷ vs → JoinsAtoms o → m₁ ≡ m + 1 → m₁ ≤ 2000 →
-      Read an_atom len d m₁ vs m₂ ws → Read product_so_far len d n ts m₂ ws
-  product_more {o = o} s a j c h r = record {
+  pub next_goes : (chain : Chain) {d n m : ℕ} {ts us : List Token} (a : Expr) (o : Op) (r : Read (an_operand chain) len d n ts m us) →
+      (S : Left) (k : Context) → depth k ≡ d → reading len (after_operator chain S a o k) n ts ≡ reading len (after_operand chain S (op o a r.tree) k) m us
+  next_goes Sum a o r S k e = r.goes (left a o) k e
+  next_goes Product a o r S k e = r.goes S (left a o) k e
+
+  pub next_stops : (chain : Chain) {d n c p : ℕ} {ts : List Token} (a : Expr) (o : Op) → BadFrom (from_operand chain) len d n ts c p →
+      (S : Left) (k : Context) → depth k ≡ d → reading len (after_operator chain S a o k) n ts ≡ wrong c p
+  next_stops Sum a o r S k e = r.stops (left a o) k e
+  next_stops Product a o r S k e = r.stops S (left a o) k e
+
+  unfoldable pub chain_first : (chain : Chain) {d n m : ℕ} {ts us : List Token} → Read (an_operand chain) len d n ts m us → Read (chain_so_far chain) len d n ts m us
+  chain_first chain r = record { tree = r.tree; goes = first_goes chain r }
+
+  pub chain_first_bad : (chain : Chain) {d n c p : ℕ} {ts : List Token} → BadFrom (from_operand chain) len d n ts c p → BadFrom (from_chain chain) len d n ts c p
+  chain_first_bad Sum b = record { stops = λ S k e. b.stops nothing k e }
+  chain_first_bad Product b = record { stops = λ S k e. b.stops S nothing k e }
+
+  unfoldable pub chain_more : (chain : Chain) {d n m m₁ m₂ p : ℕ} {ts us vs ws : List Token} {o : Op} → Read (chain_so_far chain) len d n ts m us →
+      us ≡ Operator p o ∷ vs → JoinsIn chain o → m₁ ≡ m + 1 → m₁ ≤ 2000 → Read (an_operand chain) len d m₁ vs m₂ ws → Read (chain_so_far chain) len d n ts m₂ ws
+  chain_more chain {o = o} s a j c h r = record {
     tree = op o s.tree r.tree;
-    goes = λ S k e. product_on_from s a j c h S k e ∙ r.goes S (left s.tree o) k e;
+    goes = λ S k e. chain_on chain s a j c h S k e ∙ next_goes chain s.tree o r S k e;
   }
 
-  pub product_more_bad : {d n m m₁ p c' q : ℕ} {ts us vs : List Token} {o : Op} → Read product_so_far len d n ts m us → us ≡ Operator p o ∷ vs → JoinsAtoms o → m₁ ≡ m + 1 → m₁ ≤ 2000 →
-      BadFrom from_atom len d m₁ vs c' q → BadFrom from_product len d n ts c' q
-  product_more_bad {o = o} s a j c h r = record { stops = λ S k e. product_on_from s a j c h S k e ∙ r.stops S (left s.tree o) k e }
+  pub chain_more_bad : (chain : Chain) {d n m m₁ p c' q : ℕ} {ts us vs : List Token} {o : Op} → Read (chain_so_far chain) len d n ts m us →
+      us ≡ Operator p o ∷ vs → JoinsIn chain o → m₁ ≡ m + 1 → m₁ ≤ 2000 → BadFrom (from_operand chain) len d m₁ vs c' q → BadFrom (from_chain chain) len d n ts c' q
+  chain_more_bad chain {o = o} s a j c h r = record { stops = λ S k e. chain_on chain s a j c h S k e ∙ next_stops chain s.tree o r S k e }
 
-  pub product_full : {d n m p : ℕ} {ts us vs : List Token} {o : Op} → Read product_so_far len d n ts m us → us ≡ Operator p o ∷ vs → JoinsAtoms o → 2000 ≤ m → BadFrom from_product len d n ts 14 p
-  product_full {m = m} {p = p} s a by_times h = record { stops = λ S k e. s.goes S k e ∙ (ap (reading len (after_product S s.tree k) m) a ∙ full m p _ h) }
-  product_full {m = m} {p = p} s a by_over h = record { stops = λ S k e. s.goes S k e ∙ (ap (reading len (after_product S s.tree k) m) a ∙ full m p _ h) }
+  pub chain_full : (chain : Chain) {d n m p : ℕ} {ts us vs : List Token} {o : Op} → Read (chain_so_far chain) len d n ts m us →
+      us ≡ Operator p o ∷ vs → JoinsIn chain o → 2000 ≤ m → BadFrom (from_chain chain) len d n ts 14 p
+  chain_full Sum {m = m} {p = p} s a by_plus h = record { stops = λ S k e. s.goes S k e ∙ (ap (reading len (after_sum s.tree k) m) a ∙ full m p _ h) }
+  chain_full Sum {m = m} {p = p} s a by_minus h = record { stops = λ S k e. s.goes S k e ∙ (ap (reading len (after_sum s.tree k) m) a ∙ full m p _ h) }
+  chain_full Product {m = m} {p = p} s a by_times h = record { stops = λ S k e. s.goes S k e ∙ (ap (reading len (after_product S s.tree k) m) a ∙ full m p _ h) }
+  chain_full Product {m = m} {p = p} s a by_over h = record { stops = λ S k e. s.goes S k e ∙ (ap (reading len (after_product S s.tree k) m) a ∙ full m p _ h) }
 
-  abbrev pub NotMultiplicative : List Token → Type 0
-  NotMultiplicative us = (S : Left) (e : Expr) (k : Context) (n : ℕ) → reading len (after_product S e k) n us ≡ reading len (after_sum (apply S e) k) n us
+  abbrev pub NotJoined : Chain → List Token → Type 0
+  NotJoined chain us = (S : Left) (e : Expr) (k : Context) (n : ℕ) → reading len (after_operand chain S e k) n us ≡ reading len (after_chain chain S e k) n us
 
-  pub not_multiplicative : (text : List ℕ) (k : Kind) (p e : ℕ) → Multiplicative false k → NotMultiplicative (then_from text k p e)
-  not_multiplicative text (KNumber x) p e h = λ S e k n. refl
-  not_multiplicative text KName p e h = λ S e k n. refl
-  not_multiplicative text (KOperator Plus) p e h = λ S e k n. refl
-  not_multiplicative text (KOperator Minus) p e h = λ S e k n. refl
-  not_multiplicative text (KOperator Times) p e h = absurd h
-  not_multiplicative text (KOperator Over) p e h = absurd h
-  not_multiplicative text (KWord v) p e h = λ S e k n. refl
-  not_multiplicative text (KBad c) p e h = λ S e k n. refl
-  not_multiplicative text KEnd p e h = λ S e k n. refl
+  pub not_joined : (chain : Chain) (text : List ℕ) (k : Kind) (p e : ℕ) → GoesOn chain k None → NotJoined chain (then_from text k p e)
+  not_joined Sum text (KNumber x) p e h = λ S e k n. refl
+  not_joined Sum text KName p e h = λ S e k n. refl
+  not_joined Sum text (KOperator Plus) p e h = absurd (h Plus refl by_plus)
+  not_joined Sum text (KOperator Minus) p e h = absurd (h Minus refl by_minus)
+  not_joined Sum text (KOperator Times) p e h = λ S e k n. refl
+  not_joined Sum text (KOperator Over) p e h = λ S e k n. refl
+  not_joined Sum text (KWord v) p e h = λ S e k n. refl
+  not_joined Sum text (KBad c) p e h = λ S e k n. refl
+  not_joined Sum text KEnd p e h = λ S e k n. refl
+  not_joined Product text (KNumber x) p e h = λ S e k n. refl
+  not_joined Product text KName p e h = λ S e k n. refl
+  not_joined Product text (KOperator Plus) p e h = λ S e k n. refl
+  not_joined Product text (KOperator Minus) p e h = λ S e k n. refl
+  not_joined Product text (KOperator Times) p e h = absurd (h Times refl by_times)
+  not_joined Product text (KOperator Over) p e h = absurd (h Over refl by_over)
+  not_joined Product text (KWord v) p e h = λ S e k n. refl
+  not_joined Product text (KBad c) p e h = λ S e k n. refl
+  not_joined Product text KEnd p e h = λ S e k n. refl
 
-  unfoldable pub product_done : {d n m : ℕ} {ts us : List Token} → Read product_so_far len d n ts m us → NotMultiplicative us → Read a_product len d n ts m us
-  product_done {m = m} s o = record { tree = s.tree; goes = λ S k e. s.goes S k e ∙ o S s.tree k m }
-
-  -- sums
-  pub sum_on_from : {d n m m₁ p : ℕ} {ts us vs : List Token} {o : Op} → (s : Read sum_so_far len d n ts m us) → us ≡ Operator p o ∷ vs → JoinsProducts o → m₁ ≡ m + 1 → m₁ ≤ 2000 →
-      (k : Context) → depth k ≡ d → reading len (operand nothing nothing k) n ts ≡ reading len (operand (left s.tree o) nothing k) m₁ vs
-  sum_on_from {m = m} {p = p} {vs = vs} s a by_plus c h k e =
-      s.goes k e ∙ (ap (reading len (after_sum s.tree k) m) a ∙ (room (m + 1) p _ (omega arith) ∙ recount _ vs c))
-  sum_on_from {m = m} {p = p} {vs = vs} s a by_minus c h k e =
-      s.goes k e ∙ (ap (reading len (after_sum s.tree k) m) a ∙ (room (m + 1) p _ (omega arith) ∙ recount _ vs c))
-
-  unfoldable pub sum_first : {d n m : ℕ} {ts us : List Token} → Read a_product len d n ts m us → Read sum_so_far len d n ts m us
-  sum_first r = record { tree = r.tree; goes = λ k e. r.goes nothing k e }
-
-  unfoldable pub sum_more : {d n m m₁ m₂ p : ℕ} {ts us vs ws : List Token} {o : Op} → Read sum_so_far len d n ts m us → us ≡ Operator p o ∷ vs → JoinsProducts o → m₁ ≡ m + 1 → m₁ ≤ 2000 →
-      Read a_product len d m₁ vs m₂ ws → Read sum_so_far len d n ts m₂ ws
-  sum_more {o = o} s a j c h r = record {
-    tree = op o s.tree r.tree;
-    goes = λ k e. sum_on_from s a j c h k e ∙ r.goes (left s.tree o) k e;
-  }
-
-  pub sum_more_bad : {d n m m₁ p c' q : ℕ} {ts us vs : List Token} {o : Op} → Read sum_so_far len d n ts m us → us ≡ Operator p o ∷ vs → JoinsProducts o → m₁ ≡ m + 1 → m₁ ≤ 2000 →
-      BadFrom from_product len d m₁ vs c' q → BadFrom from_sum len d n ts c' q
-  sum_more_bad {o = o} s a j c h r = record { stops = λ k e. sum_on_from s a j c h k e ∙ r.stops (left s.tree o) k e }
-
-  pub sum_full : {d n m p : ℕ} {ts us vs : List Token} {o : Op} → Read sum_so_far len d n ts m us → us ≡ Operator p o ∷ vs → JoinsProducts o → 2000 ≤ m → BadFrom from_sum len d n ts 14 p
-  sum_full {m = m} {p = p} s a by_plus h = record { stops = λ k e. s.goes k e ∙ (ap (reading len (after_sum s.tree k) m) a ∙ full m p _ h) }
-  sum_full {m = m} {p = p} s a by_minus h = record { stops = λ k e. s.goes k e ∙ (ap (reading len (after_sum s.tree k) m) a ∙ full m p _ h) }
-
-  abbrev pub NotAdditive : List Token → Type 0
-  NotAdditive us = (e : Expr) (k : Context) (n : ℕ) → reading len (after_sum e k) n us ≡ reading len (after_expr e k) n us
-
-  pub not_additive : (text : List ℕ) (k : Kind) (p e : ℕ) → Additive false k → NotAdditive (then_from text k p e)
-  not_additive text (KNumber x) p e h = λ e k n. refl
-  not_additive text KName p e h = λ e k n. refl
-  not_additive text (KOperator Plus) p e h = absurd h
-  not_additive text (KOperator Minus) p e h = absurd h
-  not_additive text (KOperator Times) p e h = λ e k n. refl
-  not_additive text (KOperator Over) p e h = λ e k n. refl
-  not_additive text (KWord v) p e h = λ e k n. refl
-  not_additive text (KBad c) p e h = λ e k n. refl
-  not_additive text KEnd p e h = λ e k n. refl
-
-  unfoldable pub sum_done : {d n m : ℕ} {ts us : List Token} → Read sum_so_far len d n ts m us → NotAdditive us → Read a_sum len d n ts m us
-  sum_done {m = m} s o = record { tree = s.tree; goes = λ k e. s.goes k e ∙ o s.tree k m }
+  unfoldable pub chain_done : (chain : Chain) {d n m : ℕ} {ts us : List Token} → Read (chain_so_far chain) len d n ts m us → NotJoined chain us → Read (a_chain chain) len d n ts m us
+  chain_done chain {m = m} s o = record { tree = s.tree; goes = λ S k e. s.goes S k e ∙ o S s.tree k m }
 
   -- let
   pub let_over : (x : Ident) (e₁ e₂ : Expr) (k : Context) (n : ℕ) (ts : List Token) →
@@ -303,21 +317,24 @@ module _ (len : ℕ) where
   let_valued n {m = m} {q = q} {ws = ws} x a g c h b b' i k e =
       let_begins n a g c h k e ∙ (ap (reading len (let_name k) m) b ∙ (ap (reading len (let_equals x k) m) b' ∙ (deep (depth k + 1) m q _ (omega arith) h ∙ recount _ ws i)))
 
-  pub let_on : (n : ℕ) {d m m₁ m₂ m₃ p q r : ℕ} {ts us vs ws xs ys : List Token} (x : Ident) → ts ≡ TheWord p Let ∷ us → d < 32 → m ≡ n + 1 → m ≤ 2000 → us ≡ Name x ∷ vs → vs ≡ TheWord q Equals ∷ ws → m₁ ≡ m →
+  pub let_on : (n : ℕ) {d m m₁ m₂ m₃ p q r : ℕ} {ts us vs ws xs ys : List Token} (x : Ident) → ts ≡ TheWord p Let ∷ us → d < 32 → m ≡ n + 1 → m ≤ 2000 →
+      us ≡ Name x ∷ vs → vs ≡ TheWord q Equals ∷ ws → m₁ ≡ m →
       (v : Read an_expr len (d + 1) m₁ ws m₂ xs) → xs ≡ TheWord r In ∷ ys → m₂ ≤ 2000 → m₃ ≡ m₂ →
       (k : Context) → depth k ≡ d → reading len (want k) n ts ≡ reading len (want (let_body x v.tree k)) m₃ ys
   let_on n {m₂ = m₂} {r = r} {ys = ys} x a g c h b b' i v o h' i' k e =
       let_valued n x a g c h b b' i k e ∙ (v.goes (let_value x k) (ap (λ y. y + 1) e)
       ∙ (ap (reading len (after_expr v.tree (let_value x k)) m₂) o ∙ (deep (depth k + 1) m₂ r _ (omega arith) h' ∙ recount _ ys i')))
 
-  unfoldable pub let_read : {d n m m₁ m₂ m₃ m₄ p q r : ℕ} {ts us vs ws xs ys zs : List Token} (x : Ident) → ts ≡ TheWord p Let ∷ us → d < 32 → m ≡ n + 1 → m ≤ 2000 → us ≡ Name x ∷ vs → vs ≡ TheWord q Equals ∷ ws → m₁ ≡ m →
+  unfoldable pub let_read : {d n m m₁ m₂ m₃ m₄ p q r : ℕ} {ts us vs ws xs ys zs : List Token} (x : Ident) → ts ≡ TheWord p Let ∷ us → d < 32 → m ≡ n + 1 → m ≤ 2000 →
+      us ≡ Name x ∷ vs → vs ≡ TheWord q Equals ∷ ws → m₁ ≡ m →
       Read an_expr len (d + 1) m₁ ws m₂ xs → xs ≡ TheWord r In ∷ ys → m₂ ≤ 2000 → m₃ ≡ m₂ → Read an_expr len (d + 1) m₃ ys m₄ zs → Read an_expr len d n ts m₄ zs
   let_read {n = n} {m₄ = m₄} {zs = zs} x a g c h b b' i v o h' i' w = record {
     tree = let_in x v.tree w.tree;
     goes = λ k e. let_on n x a g c h b b' i v o h' i' k e ∙ (w.goes (let_body x v.tree k) (ap (λ y. y + 1) e) ∙ let_over x v.tree w.tree k m₄ zs);
   }
 
-  pub let_bad : {d n m m₁ m₂ m₃ p q r c' s : ℕ} {ts us vs ws xs ys : List Token} (x : Ident) → ts ≡ TheWord p Let ∷ us → d < 32 → m ≡ n + 1 → m ≤ 2000 → us ≡ Name x ∷ vs → vs ≡ TheWord q Equals ∷ ws → m₁ ≡ m →
+  pub let_bad : {d n m m₁ m₂ m₃ p q r c' s : ℕ} {ts us vs ws xs ys : List Token} (x : Ident) → ts ≡ TheWord p Let ∷ us → d < 32 → m ≡ n + 1 → m ≤ 2000 →
+      us ≡ Name x ∷ vs → vs ≡ TheWord q Equals ∷ ws → m₁ ≡ m →
       Read an_expr len (d + 1) m₁ ws m₂ xs → xs ≡ TheWord r In ∷ ys → m₂ ≤ 2000 → m₃ ≡ m₂ → BadFrom from_expr len (d + 1) m₃ ys c' s → BadFrom from_expr len d n ts c' s
   let_bad {n = n} x a g c h b b' i v o h' i' w = record { stops = λ k e. let_on n x a g c h b b' i v o h' i' k e ∙ w.stops (let_body x v.tree k) (ap (λ y. y + 1) e) }
 
@@ -326,7 +343,8 @@ module _ (len : ℕ) where
       reading len (want k) n ts ≡ reading len (want (if_test k)) m us
   ifp_begins n {p = p} {us = us} a g c h k e = ap (reading len (want k) n) a ∙ (deep (depth k + 1) (n + 1) p _ (omega arith) (omega arith) ∙ recount _ us c)
 
-  pub ifp_thenned : (n : ℕ) {d m m₁ m₂ p q : ℕ} {ts us vs ws : List Token} → ts ≡ TheWord p Ifp ∷ us → d < 32 → m ≡ n + 1 → m ≤ 2000 → (v : Read an_expr len (d + 1) m us m₁ vs) → vs ≡ TheWord q Then ∷ ws →
+  pub ifp_thenned : (n : ℕ) {d m m₁ m₂ p q : ℕ} {ts us vs ws : List Token} → ts ≡ TheWord p Ifp ∷ us → d < 32 → m ≡ n + 1 → m ≤ 2000 →
+      (v : Read an_expr len (d + 1) m us m₁ vs) → vs ≡ TheWord q Then ∷ ws →
       m₁ ≤ 2000 → m₂ ≡ m₁ → (k : Context) → depth k ≡ d → reading len (want k) n ts ≡ reading len (want (if_then v.tree k)) m₂ ws
   ifp_thenned n {m₁ = m₁} {q = q} {ws = ws} a g c h v b h' i k e =
       ifp_begins n a g c h k e ∙ (v.goes (if_test k) (ap (λ y. y + 1) e)
@@ -351,21 +369,24 @@ module _ (len : ℕ) where
         ifp_thenned n a g c h v b h' i k e ∙ (w.goes (if_then v.tree k) (ap (λ y. y + 1) e) ∙ no_else w.tree v.tree k m₃ xs o);
   }
 
-  pub ifp_on : (n : ℕ) {d m m₁ m₂ m₃ m₄ p q r : ℕ} {ts us vs ws xs ys : List Token} → ts ≡ TheWord p Ifp ∷ us → d < 32 → m ≡ n + 1 → m ≤ 2000 → (v : Read an_expr len (d + 1) m us m₁ vs) → vs ≡ TheWord q Then ∷ ws →
+  pub ifp_on : (n : ℕ) {d m m₁ m₂ m₃ m₄ p q r : ℕ} {ts us vs ws xs ys : List Token} → ts ≡ TheWord p Ifp ∷ us → d < 32 → m ≡ n + 1 → m ≤ 2000 →
+      (v : Read an_expr len (d + 1) m us m₁ vs) → vs ≡ TheWord q Then ∷ ws →
       m₁ ≤ 2000 → m₂ ≡ m₁ → (w : Read an_expr len (d + 1) m₂ ws m₃ xs) → xs ≡ TheWord r Else ∷ ys → m₃ ≤ 2000 → m₄ ≡ m₃ →
       (k : Context) → depth k ≡ d → reading len (want k) n ts ≡ reading len (want (if_else v.tree w.tree k)) m₄ ys
   ifp_on n {m₃ = m₃} {r = r} {ys = ys} a g c h v b h' i w o j i' k e =
       ifp_thenned n a g c h v b h' i k e ∙ (w.goes (if_then v.tree k) (ap (λ y. y + 1) e)
       ∙ (ap (reading len (after_expr w.tree (if_then v.tree k)) m₃) o ∙ (deep (depth k + 1) m₃ r _ (omega arith) j ∙ recount _ ys i')))
 
-  unfoldable pub ifp_read : {d n m m₁ m₂ m₃ m₄ m₅ p q r : ℕ} {ts us vs ws xs ys zs : List Token} → ts ≡ TheWord p Ifp ∷ us → d < 32 → m ≡ n + 1 → m ≤ 2000 → Read an_expr len (d + 1) m us m₁ vs → vs ≡ TheWord q Then ∷ ws →
+  unfoldable pub ifp_read : {d n m m₁ m₂ m₃ m₄ m₅ p q r : ℕ} {ts us vs ws xs ys zs : List Token} → ts ≡ TheWord p Ifp ∷ us → d < 32 → m ≡ n + 1 → m ≤ 2000 →
+      Read an_expr len (d + 1) m us m₁ vs → vs ≡ TheWord q Then ∷ ws →
       m₁ ≤ 2000 → m₂ ≡ m₁ → Read an_expr len (d + 1) m₂ ws m₃ xs → xs ≡ TheWord r Else ∷ ys → m₃ ≤ 2000 → m₄ ≡ m₃ → Read an_expr len (d + 1) m₄ ys m₅ zs → Read an_expr len d n ts m₅ zs
   ifp_read {n = n} {m₅ = m₅} {zs = zs} a g c h v b h' i w o j i' y = record {
     tree = ifp v.tree w.tree y.tree;
     goes = λ k e. ifp_on n a g c h v b h' i w o j i' k e ∙ (y.goes (if_else v.tree w.tree k) (ap (λ y. y + 1) e) ∙ ifp_over v.tree w.tree y.tree k m₅ zs);
   }
 
-  pub ifp_bad : {d n m m₁ m₂ m₃ m₄ p q r c' s : ℕ} {ts us vs ws xs ys : List Token} → ts ≡ TheWord p Ifp ∷ us → d < 32 → m ≡ n + 1 → m ≤ 2000 → Read an_expr len (d + 1) m us m₁ vs → vs ≡ TheWord q Then ∷ ws →
+  pub ifp_bad : {d n m m₁ m₂ m₃ m₄ p q r c' s : ℕ} {ts us vs ws xs ys : List Token} → ts ≡ TheWord p Ifp ∷ us → d < 32 → m ≡ n + 1 → m ≤ 2000 →
+      Read an_expr len (d + 1) m us m₁ vs → vs ≡ TheWord q Then ∷ ws →
       m₁ ≤ 2000 → m₂ ≡ m₁ → Read an_expr len (d + 1) m₂ ws m₃ xs → xs ≡ TheWord r Else ∷ ys → m₃ ≤ 2000 → m₄ ≡ m₃ → BadFrom from_expr len (d + 1) m₄ ys c' s → BadFrom from_expr len d n ts c' s
   ifp_bad {n = n} a g c h v b h' i w o j i' y = record { stops = λ k e. ifp_on n a g c h v b h' i w o j i' k e ∙ y.stops (if_else v.tree w.tree k) (ap (λ y. y + 1) e) }
 
@@ -433,7 +454,8 @@ module _ (len : ℕ) where
   pub fits_not : (s p : ℕ) (v : Verdict Recipe) → 32 ≤ s → unless (cond (leb s 31) 0 7) p v ≡ wrong 7 p
   fits_not s p v h = rw (lt-leb s 31 (omega arith)) refl
 
-  unfoldable pub declarations_first : {m₁ m₂ p : ℕ} {ts us vs ws : List Token} (f : Ident) → ts ≡ TheWord p Let ∷ us → us ≡ Name f ∷ vs → m₁ ≡ 0 → ReadHead len m₁ vs m₂ ws → DeclarationsSoFar len ts 1 m₂ ws
+  unfoldable pub declarations_first : {m₁ m₂ p : ℕ} {ts us vs ws : List Token} (f : Ident) → ts ≡ TheWord p Let ∷ us → us ≡ Name f ∷ vs → m₁ ≡ 0 →
+      ReadHead len m₁ vs m₂ ws → DeclarationsSoFar len ts 1 m₂ ws
   declarations_first {vs = vs} f a b c h = record {
     declared = one_only (declare f h.names h.tree);
     sized = refl;

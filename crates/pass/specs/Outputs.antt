@@ -1,14 +1,13 @@
 -- What the words of a tree come to.
-use Rattle.std.specs.Prelude.{◌≡◌, ℕ, ◌+◌, max, cond, List, [], ◌∷◌, ◌++◌, length, Some, None, Option, nat_le}
+use Rattle.std.specs.Prelude.{◌≡◌, ℕ, ◌+◌, ◌<◌, ◌≤◌, max, cond, List, [], ◌∷◌, ◌++◌, length, Some, None, Option, nat_le}
 use Rattle.recipe.specs.Grammar.{Expr, Arguments, Several, Declaration, declare}
 use Rattle.recipe.specs.Tokens.{Ident}
 use Rattle.recipe.specs.Names.{Signature, among, all, names_of, twice, declared_names, earliest, faults, faults_of, body_faults}
-use Rattle.recipe.specs.Image.{Bound, past, pasts, OP, FN, BACK, words, arguments, slots, placed, past_all, bodies}
-use Rattle.recipe.specs.declared.Op.{Op}
-use Rattle.lexer.specs.declared.Kind.{Kind}
-use Rattle.lexer.specs.declared.Kind.TheVariants.{Operator}
+use Rattle.recipe.specs.Image.{Bound, past, pasts, NUM, VAR, OP, OUT, UNLESS, GO, CALL, BACK, WEIGH, FN, words, arguments, slots, placed, past_all, bodies}
+use Rattle.pass.specs.declared.instruction.Instruction.{Instruction}
+use Rattle.pass.specs.declared.instruction.Instruction.TheVariants.{Number, Variable, Operator, Out, Unless, Go, Call, Back, Weigh, Function}
 use Rattle.recipe.specs.Frames.{need, needs}
-use Rattle.pass.specs.declared.cursor.Output.{Output}
+use Rattle.pass.specs.declared.output.Output.{Output}
 use Rattle.recipe.specs.declared.cause.Refusal.{Refusal}
 use Rattle.recipe.specs.declared.cause.Cause.TheVariants.{DeclaredTwice}
 use Rattle.pass.specs.Known.{Env, spelled}
@@ -23,9 +22,31 @@ pushed h o = record { at = o.at + 1; peak = max o.peak (h + 1); fault = o.fault 
 abbrev pub faulted : Output → List Refusal → Output
 faulted o fs = record { at = o.at; peak = o.peak; fault = earliest o.fault fs }
 
--- The word of an operator, where the token is one.
-abbrev pub Operates : ℕ → Kind → Type 0
-Operates w k = (o : Op) → k ≡ Operator o → w ≡ OP o
+-- The word of an instruction.
+abbrev pub word_for : Instruction → ℕ
+word_for (Number n) = NUM n
+word_for (Variable slot) = VAR slot
+word_for (Operator o) = OP o
+word_for Out = OUT
+word_for (Unless target) = UNLESS target
+word_for (Go target) = GO target
+word_for (Call arity target) = CALL arity target
+word_for Back = BACK
+word_for (Weigh channel) = WEIGH channel
+word_for (Function arity) = FN arity
+
+-- A word has room for its operand.
+abbrev pub Holds : Instruction → Type 0
+Holds (Number n) = n ≤ 268435455
+Holds (Variable slot) = Unit {0}
+Holds (Operator o) = Unit {0}
+Holds Out = Unit {0}
+Holds (Unless target) = Unit {0}
+Holds (Go target) = Unit {0}
+Holds (Call arity target) = arity < 4096
+Holds Back = Unit {0}
+Holds (Weigh channel) = channel ≤ 268435455
+Holds (Function arity) = Unit {0}
 
 -- From the output o and the image m a tree comes to o' and m', on a frame of h values.
 abbrev pub MadeOf : Type 0 → Type 1

@@ -1,32 +1,33 @@
 -- What the reading functions promise.
-use Rattle.std.specs.Prelude.{◌≡◌, ℕ, ◌+◌, ◌*◌, ◌<◌, ◌≤◌, Bool, true, false, ◌⊎◌, List, [], ◌∷◌, ◌++◌, length, take, Some, None, Option, Result, MatchResult, ◌==◌, slice_set}
+use Rattle.std.specs.Prelude.{◌≡◌, ℕ, ◌+◌, ◌*◌, ◌<◌, ◌≤◌, ◌≢◌, false, ◌⊎◌, List, [], ◌∷◌, ◌++◌, length, Some, None, Option, Result, MatchResult, ◌==◌}
 use Rattle.std.proofs.Math.Option.{none, some}
 use Rattle.std.proofs.Math.Option as opt
 use Rattle.recipe.specs.declared.Op.{Op}
-use Rattle.recipe.specs.declared.Op.TheVariants.{Plus, Minus, Times, Over}
 use Rattle.recipe.specs.declared.Word.{Word as AWord}
 use Rattle.recipe.specs.Tokens.{Ident, Token, Number as ANumber, Name as AName, Operator as AnOperator, TheWord, Bad as ABad, Verdict, fine, wrong, tokens}
 use Rattle.recipe.specs.Grammar.{Expr, call, Arguments, one, more, JoinsProducts, JoinsAtoms, Several, one_only, and_then, Declaration, declare, recipe}
-use Rattle.recipe.specs.Machine.{code, Left, nothing, apply, Context, argument, in_body, State, start, head_open, head_next, want, operand, after_product, after_sum, after_expr}
+use Rattle.recipe.specs.Machine.{code, Left, nothing, left, apply, Context, argument, in_body, State, start, head_open, head_next, want, operand, after_product, after_sum, after_expr}
 use Rattle.recipe.specs.Theorem.{first_place}
 use Rattle.recipe.specs.Limits.{depth, reading, size}
-use Rattle.lexer.specs.Lexed.{tokens_from, rest, Valid, Small, token_of}
+use Rattle.lexer.specs.Lexed.{rest, Valid, Small, token_of}
 use Rattle.lexer.specs.declared.Kind.{Kind}
 use Rattle.lexer.specs.declared.Kind.TheVariants.{Number, Name, Operator, Word, Bad, End}
-use Rattle.lexer.specs.declared.Lexeme.{Lexeme}
 use Rattle.pass.specs.declared.cursor.Spot.{Spot}
 use Rattle.recipe.specs.declared.cause.Refusal.{Refusal}
 use Rattle.recipe.specs.Causes.{cause_number}
+use Rattle.recipe.specs.declared.cause.Cause.{Cause}
 use Rattle.recipe.specs.declared.cause.Cause.TheVariants.{Grammar, Nesting, Functions, Parameters as TooManyParameters, Constructs, Frame}
 use Rattle.pass.specs.declared.cursor.Level.{Level}
+use Rattle.pass.specs.declared.chain.Chain.{Chain}
+use Rattle.pass.specs.declared.chain.Chain.TheVariants.{Sum, Product}
 use Rattle.pass.specs.declared.descent.Given.{Given}
+use Rattle.pass.specs.declared.descent.Descent.{Descent}
 use Rattle.recipe.specs.Names.{count as argument_count}
-use Rattle.pass.specs.declared.names.Scope.{Scope}
-use Rattle.pass.specs.declared.cursor.Output.{Output}
-use Rattle.pass.specs.declared.passes.Parameters.{Parameters}
+use Rattle.pass.specs.declared.names.Variable.{Variable}
+use Rattle.pass.specs.declared.output.Output.{Output}
 use Rattle.pass.specs.declared.passes.Declared.{Declared as ADeclared}
 use Rattle.pass.specs.declared.names.Function.{Function}
-use Rattle.pass.specs.Known.{Env, Spelled, ident, force, spelled, signed, entered, Scoped, Declared}
+use Rattle.pass.specs.Known.{Env, env, ident, in_force, spelled, signed, entered}
 use Rattle.recipe.specs.Image.{slots, past, past_all, words, entries, bodies, placed, BACK}
 use Rattle.recipe.specs.Frames.{recipe_frames}
 use Rattle.pass.specs.declared.passes.Heads.{Heads}
@@ -39,8 +40,8 @@ abbrev pub Fit : List ℕ → Spot → Type 0
 Fit text s = Valid text s.look × (s.count ≤ 2000) × (s.out.at ≤ 2 * s.count + 4100) × Small s.look.kind
 
 -- A frame holds at most its parameters, and a value for each construct.
-abbrev pub Stands : Spot → Level → Scope → Type 0
-Stands s level scope = (level.depth ≤ 32) × (level.held ≤ s.count + 8) × (scope.count ≤ level.depth + 8)
+abbrev pub Stands : Spot → Level → List Variable → Type 0
+Stands s level scope = (level.depth ≤ 32) × (level.held ≤ s.count + 8) × (length scope ≤ level.depth + 8)
 
 abbrev pub AtKind : Spot → Kind → Type 0
 AtKind s k = s.look.kind ≡ k
@@ -48,9 +49,6 @@ AtKind s k = s.look.kind ≡ k
 -- the tokens from a spot on
 abbrev pub ahead : List ℕ → Spot → List Token
 ahead text s = rest text s.look
-
-abbrev pub Stepped : List ℕ → Lexeme → Lexeme → Type 0
-Stepped text l r = (l.end ≤ r.start) × Valid text r × (tokens_from text l.end ≡ rest text r) × Small r.kind
 
 -- no token `w` comes first
 abbrev pub OtherWord : AWord → List Token → Type 0
@@ -69,15 +67,6 @@ NoName (AnOperator p o ∷ ts) = Unit {0}
 NoName (TheWord p v ∷ ts) = Unit {0}
 NoName (ABad p c ∷ ts) = Unit {0}
 
-abbrev pub IsWord : Bool → AWord → Kind → Type 0
-IsWord true w k = k ≡ Word w
-IsWord false w (Number n) = Unit {0}
-IsWord false w Name = Unit {0}
-IsWord false w (Operator o) = Unit {0}
-IsWord false w (Word v) = (code w == code v) ≡ false
-IsWord false w (Bad c) = Unit {0}
-IsWord false w End = Unit {0}
-
 -- Further on: the next spot, with a token `t` between that makes no word.
 pub record Past (text : List ℕ) (here : Spot) (t : Token) (s : Spot) : Type 0 where
   pub far : here.look.start < s.look.start
@@ -85,82 +74,58 @@ pub record Past (text : List ℕ) (here : Spot) (t : Token) (s : Spot) : Type 0 
   pub fit : Fit text s
   pub token : ahead text here ≡ t ∷ ahead text s
 
+abbrev pub refused_at : Spot → Cause → Refusal
+refused_at here c = record { cause = c; place = here.look.start }
+
 -- a refusal for the grammar, here
 abbrev pub Stops : List ℕ → Spot → Refusal → Type 0
 Stops text here e = (e.cause ≡ Grammar) × (e.place ≡ first_place (length text) (ahead text here))
 
-abbrev pub Expects : List ℕ → Spot → AWord → Result Spot Refusal → Type 0
-Expects text here w r =
-    MatchResult r (λ s. Past text here (TheWord here.look.start w) s × (s.count ≡ here.count)) (λ e. Stops text here e × OtherWord w (ahead text here))
+-- no token of the kind comes first, where that is a word or a name
+abbrev pub Missing : Kind → List Token → Type 0
+Missing (Number n) ts = Unit {0}
+Missing Name ts = NoName ts
+Missing (Operator o) ts = Unit {0}
+Missing (Word w) ts = OtherWord w ts
+Missing (Bad c) ts = Unit {0}
+Missing End ts = Unit {0}
 
-abbrev pub Names : List ℕ → Spot → Result Spot Refusal → Type 0
-Names text here r =
-    MatchResult r (λ s. Past text here (AName (ident text here.look)) s × (s.count ≡ here.count) × Spelled text here.look) (λ e. Stops text here e × NoName (ahead text here))
-
-abbrev pub NoNumber : List Token → Type 0
-NoNumber [] = Unit {0}
-NoNumber (ANumber n ∷ ts) = ⊥
-NoNumber (AName x ∷ ts) = Unit {0}
-NoNumber (AnOperator p o ∷ ts) = Unit {0}
-NoNumber (TheWord p v ∷ ts) = Unit {0}
-NoNumber (ABad p c ∷ ts) = Unit {0}
+abbrev pub Expects : List ℕ → Spot → Kind → Result Spot Refusal → Type 0
+Expects text here kind r =
+    MatchResult r (λ s. Past text here (token_of text kind here.look.start here.look.end) s × (s.count ≡ here.count) × (here.look.kind ≡ kind))
+    (λ e. Stops text here e × Missing kind (ahead text here) × (here.look.kind ≢ kind))
 
 -- the token of a spot
 abbrev pub the_token : List ℕ → Spot → Token
 the_token text here = token_of text here.look.kind here.look.start here.look.end
+
+abbrev pub Passes : List ℕ → Spot → Spot → Type 0
+Passes text here s = Past text here (the_token text here) s × (s.count ≡ here.count)
 
 abbrev pub Counts : List ℕ → Spot → Result Spot Refusal → Type 0
 Counts text here r =
     MatchResult r (λ s. Past text here (the_token text here) s × (s.count ≡ here.count + 1))
     (λ e. (2000 ≤ here.count) × (e.cause ≡ Constructs) × (e.place ≡ here.look.start))
 
-abbrev pub Enters : List ℕ → Spot → ℕ → Result Spot Refusal → Type 0
-Enters text here d r =
-    MatchResult r (λ s. (d < 32) × Past text here (the_token text here) s × (s.count ≡ here.count + 1))
-    (λ e. (e.place ≡ here.look.start) × (((32 ≤ d) × (e.cause ≡ Nesting)) ⊎ ((d < 32) × (2000 ≤ here.count) × (e.cause ≡ Constructs))))
+-- One nesting more around an expression, and n values more before it.
+abbrev pub nested : Level → Level
+nested level = record { depth = level.depth + 1; held = level.held }
 
-abbrev pub Opens : List ℕ → Spot → ℕ → Result Spot Refusal → Type 0
-Opens text here d r =
-    MatchResult r (λ s. (d < 32) × Past text here (the_token text here) s × (s.count ≡ here.count))
-    (λ e. (e.place ≡ here.look.start) × (32 ≤ d) × (e.cause ≡ Nesting))
+abbrev pub holding : Level → ℕ → Level
+holding level n = record { depth = level.depth; held = level.held + n }
 
-abbrev pub Adds : Bool → Op → Type 0
-Adds true o = JoinsProducts o
-Adds false Plus = ⊥
-Adds false Minus = ⊥
-Adds false Times = Unit {0}
-Adds false Over = Unit {0}
+abbrev pub Nests : Level → Spot → Result Level Refusal → Type 0
+Nests level here r = MatchResult r (λ l. (level.depth < 32) × (l ≡ nested level)) (λ e. (32 ≤ level.depth) × (e ≡ refused_at here Nesting))
 
-abbrev pub Multiplies : Bool → Op → Type 0
-Multiplies true o = JoinsAtoms o
-Multiplies false Plus = Unit {0}
-Multiplies false Minus = Unit {0}
-Multiplies false Times = ⊥
-Multiplies false Over = ⊥
+-- `+` and `-` go on with a sum, `*` and `div` with a product.
+abbrev pub JoinsIn : Chain → Op → Type 0
+JoinsIn Sum o = JoinsProducts o
+JoinsIn Product o = JoinsAtoms o
 
-abbrev pub Additive : Bool → Kind → Type 0
-Additive true k = (o : Op) × (k ≡ Operator o) × JoinsProducts o
-Additive false (Number n) = Unit {0}
-Additive false Name = Unit {0}
-Additive false (Operator Plus) = ⊥
-Additive false (Operator Minus) = ⊥
-Additive false (Operator Times) = Unit {0}
-Additive false (Operator Over) = Unit {0}
-Additive false (Word v) = Unit {0}
-Additive false (Bad c) = Unit {0}
-Additive false End = Unit {0}
-
-abbrev pub Multiplicative : Bool → Kind → Type 0
-Multiplicative true k = (o : Op) × (k ≡ Operator o) × JoinsAtoms o
-Multiplicative false (Number n) = Unit {0}
-Multiplicative false Name = Unit {0}
-Multiplicative false (Operator Plus) = Unit {0}
-Multiplicative false (Operator Minus) = Unit {0}
-Multiplicative false (Operator Times) = ⊥
-Multiplicative false (Operator Over) = ⊥
-Multiplicative false (Word v) = Unit {0}
-Multiplicative false (Bad c) = Unit {0}
-Multiplicative false End = Unit {0}
+-- the operator of a token that goes on with a chain
+abbrev pub GoesOn : Chain → Kind → Option Op → Type 0
+GoesOn chain kind (Some o) = (kind ≡ Operator o) × JoinsIn chain o
+GoesOn chain kind None = (o : Op) → kind ≡ Operator o → JoinsIn chain o → ⊥
 
 -- What is read: the states that the machine goes from, and those that it goes to with the tree, wherever that stands in a nesting of d.
 abbrev pub From : Type 1
@@ -181,46 +146,65 @@ pub record BadFrom (from : From) (len d n : ℕ) (ts : List Token) (c p : ℕ) :
 abbrev pub from_expr : From
 from_expr d P = (k : Context) → depth k ≡ d → P (want k)
 
-abbrev pub from_sum : From
-from_sum d P = (k : Context) → depth k ≡ d → P (operand nothing nothing k)
-
-abbrev pub from_product : From
-from_product d P = (S : Left) (k : Context) → depth k ≡ d → P (operand S nothing k)
-
 abbrev pub from_atom : From
 from_atom d P = (S P' : Left) (k : Context) → depth k ≡ d → P (operand S P' k)
 
+-- The arguments of a call stand in one nesting more than the call, that of its bracket.
 abbrev pub from_call : From
-from_call d P = (S P' : Left) (f : Ident) (k : Context) → depth k ≡ d → P (want (argument S P' f none k))
+from_call d P = (S P' : Left) (f : Ident) (k : Context) → depth k + 1 ≡ d → P (want (argument S P' f none k))
 
 abbrev pub an_expr : Part Expr
 an_expr e d R = (k : Context) → depth k ≡ d → R (want k) (after_expr e k)
-
-abbrev pub a_sum : Part Expr
-a_sum e d R = (k : Context) → depth k ≡ d → R (operand nothing nothing k) (after_expr e k)
-
-abbrev pub a_product : Part Expr
-a_product e d R = (S : Left) (k : Context) → depth k ≡ d → R (operand S nothing k) (after_sum (apply S e) k)
 
 abbrev pub an_atom : Part Expr
 an_atom e d R = (S P : Left) (k : Context) → depth k ≡ d → R (operand S P k) (after_product S (apply P e) k)
 
 abbrev pub a_call : Part Arguments
-a_call es d R = (S P : Left) (f : Ident) (k : Context) → depth k ≡ d → R (want (argument S P f none k)) (after_product S (apply P (call f es)) k)
+a_call es d R = (S P : Left) (f : Ident) (k : Context) → depth k + 1 ≡ d → R (want (argument S P f none k)) (after_product S (apply P (call f es)) k)
 
--- Inside a loop: the arguments, the product or the sum so far.
+-- A chain begins where no operand of it has been read: a sum with no sum before it, a product in the sum S.
+abbrev pub begins : Chain → Left → Left
+begins Sum S = nothing
+begins Product S = S
+
+-- after a whole chain, where it may go on, and after an operator that goes on with it
+abbrev pub after_chain : Chain → Left → Expr → Context → State
+after_chain Sum S e k = after_expr e k
+after_chain Product S e k = after_sum (apply S e) k
+
+abbrev pub after_operand : Chain → Left → Expr → Context → State
+after_operand Sum S e k = after_sum e k
+after_operand Product S e k = after_product S e k
+
+abbrev pub after_operator : Chain → Left → Expr → Op → Context → State
+after_operator Sum S e o k = operand (left e o) nothing k
+after_operator Product S e o k = operand S (left e o) k
+
+abbrev pub from_chain : Chain → From
+from_chain chain d P = (S : Left) (k : Context) → depth k ≡ d → P (operand (begins chain S) nothing k)
+
+abbrev pub a_chain : Chain → Part Expr
+a_chain chain e d R = (S : Left) (k : Context) → depth k ≡ d → R (operand (begins chain S) nothing k) (after_chain chain S e k)
+
+-- Inside a loop: the chain so far, the arguments so far.
+abbrev pub chain_so_far : Chain → Part Expr
+chain_so_far chain e d R = (S : Left) (k : Context) → depth k ≡ d → R (operand (begins chain S) nothing k) (after_operand chain S e k)
+
 abbrev pub after_arguments : Left → Left → Ident → Arguments → Context → State
 after_arguments S P f (one e) k = after_expr e (argument S P f none k)
 after_arguments S P f (more es e) k = after_expr e (argument S P f (some es) k)
 
 abbrev pub arguments_so_far : Part Arguments
-arguments_so_far es d R = (S P : Left) (f : Ident) (k : Context) → depth k ≡ d → R (want (argument S P f none k)) (after_arguments S P f es k)
+arguments_so_far es d R = (S P : Left) (f : Ident) (k : Context) → depth k + 1 ≡ d → R (want (argument S P f none k)) (after_arguments S P f es k)
 
-abbrev pub product_so_far : Part Expr
-product_so_far e d R = (S : Left) (k : Context) → depth k ≡ d → R (operand S nothing k) (after_product S e k)
+-- The operands of a sum are products, those of a product atoms.
+abbrev pub from_operand : Chain → From
+from_operand Sum = from_chain Product
+from_operand Product = from_atom
 
-abbrev pub sum_so_far : Part Expr
-sum_so_far e d R = (k : Context) → depth k ≡ d → R (operand nothing nothing k) (after_sum e k)
+abbrev pub an_operand : Chain → Part Expr
+an_operand Sum = a_chain Product
+an_operand Product = an_atom
 
 -- Further on, by at most two words for each construct.
 pub record Further (text : List ℕ) (here s : Spot) : Type 0 where
@@ -238,6 +222,13 @@ pub record Through {Tree : Type 0} (part : Part Tree) (Makes : MadeOf Tree) (tex
 abbrev pub Refuses : From → List ℕ → Level → Spot → Refusal → Type 0
 Refuses from text level here e = BadFrom from (length text) level.depth here.count (ahead text here) (cause_number e.cause) e.place
 
+-- Where a descent may begin: at a spot of its text, with the variables in force.
+abbrev pub Ready : Descent → Spot → Level → List Variable → Type 0
+Ready d here level scope = Fit d.text.now here × Stands here level scope
+
+abbrev pub knows : Descent → List Variable → Env
+knows d scope = env d.functions.now scope
+
 -- The functions' promises.
 abbrev pub Goes : Part Expr → From → List ℕ → Env → Spot → Level → List ℕ → Result Spot Refusal → List ℕ → Type 0
 Goes part from text v here level m r m' = MatchResult r (λ s. Through part Made text v level here m s m') (λ e. Refuses from text level here e)
@@ -247,6 +238,10 @@ pub record Gives (part : Part Arguments) (text : List ℕ) (v : Env) (level : Le
   pub through : Through part MadeAll text v level here m s m'
   pub counted : n ≡ argument_count through.read.tree
   pub few : here.count + n ≤ s.count
+
+-- The same of a descent through a text, with the names that it knows.
+abbrev pub Descends : Part Expr → From → Descent → List Variable → Spot → Level → List ℕ → Result Spot Refusal → List ℕ → Type 0
+Descends part from d scope here level m r m' = Goes part from d.text.now (knows d scope) here level m r m'
 
 abbrev pub GoesCall : List ℕ → Env → Spot → Level → List ℕ → Result Given Refusal → List ℕ → Type 0
 GoesCall text v here level m r m' = MatchResult r (λ g. Gives a_call text v level here m g.next m' g.count) (λ e. Refuses from_call text level here e)
@@ -262,31 +257,21 @@ CarriesAll text v level here s₀ m₀ s m' n =
     ((m : List ℕ) → Gives arguments_so_far text v level here m s₀ m₀ 1 → Gives arguments_so_far text v level here m s m' n)
 
 -- A parameter more, after those in force.
-pub record Taken (text : List ℕ) (here : Spot) (scope : Scope) (p : Parameters) : Type 0 where
-  pub few : scope.count < 8
-  pub far : here.look.start < p.next.look.start
-  pub fit : Fit text p.next
-  pub token : ahead text here ≡ AName (ident text here.look) ∷ ahead text p.next
-  pub same : p.next.count ≡ here.count
-  pub out : p.next.out ≡ faulted here.out (again (spelled (force text scope)) (ident text here.look))
-  pub counted : p.scope.count ≡ scope.count + 1
-  pub known : force text p.scope ≡ record { name = (ident text here.look).name; to = scope.count } ∷ force text scope
-  pub scoped : Scoped text p.scope
+pub record Taken (text : List ℕ) (here : Spot) (scope : List Variable) (s : Spot) (scope' : List Variable) : Type 0 where
+  pub few : length scope < 8
+  pub far : here.look.start < s.look.start
+  pub fit : Fit text s
+  pub token : ahead text here ≡ AName (ident text here.look) ∷ ahead text s
+  pub same : s.count ≡ here.count
+  pub out : s.out ≡ faulted here.out (again (spelled (in_force scope)) (ident text here.look))
+  pub counted : length scope' ≡ length scope + 1
+  pub known : in_force scope' ≡ record { name = (ident text here.look).name; to = length scope } ∷ in_force scope
 
-abbrev pub Takes : List ℕ → Spot → Scope → Result Parameters Refusal → Type 0
-Takes text here scope r =
-    MatchResult r (λ p. Taken text here scope p)
+abbrev pub Takes : List ℕ → Spot → List Variable → Result Spot Refusal → List Variable → Type 0
+Takes text here scope r scope' =
+    MatchResult r (λ s. Taken text here scope s scope')
     (λ e. (Stops text here e × NoName (ahead text here))
-    ⊎ ((8 ≤ scope.count) × (e.cause ≡ TooManyParameters) × (e.place ≡ here.look.start) × ((us : List Token) × (ahead text here ≡ AName (ident text here.look) ∷ us))))
-
-abbrev pub IsName : Bool → Kind → Type 0
-IsName true k = k ≡ Name
-IsName false (Number n) = Unit {0}
-IsName false Name = ⊥
-IsName false (Operator o) = Unit {0}
-IsName false (Word v) = Unit {0}
-IsName false (Bad c) = Unit {0}
-IsName false End = Unit {0}
+    ⊎ ((8 ≤ length scope) × (e.cause ≡ TooManyParameters) × (e.place ≡ here.look.start) × ((us : List Token) × (ahead text here ≡ AName (ident text here.look) ∷ us))))
 
 -- A declaration from its bracket on, with those before it; its names so far; the declarations so far.
 pub record ReadHead (len n : ℕ) (ts : List Token) (m : ℕ) (us : List Token) : Type 0 where
@@ -312,25 +297,24 @@ pub record DeclarationsSoFar (len : ℕ) (ts : List Token) (s m : ℕ) (us : Lis
   pub goes : reading len start 0 ts ≡ reading len (after_declarations declared) m us
 
 -- The parameters so far, with their slots.
-pub record ParametersMade (text : List ℕ) (o : Output) (xs : Several Ident) (scope : Scope) (o' : Output) : Type 0 where
-  pub known : force text scope ≡ slots [] 0 (all xs)
+pub record ParametersMade (o : Output) (xs : Several Ident) (scope : List Variable) (o' : Output) : Type 0 where
+  pub known : in_force scope ≡ slots [] 0 (all xs)
   pub out : o' ≡ faulted o (twice [] (all xs))
 
-pub record ParametersSoFar (text : List ℕ) (here : Spot) (p : Parameters) : Type 0 where
-  pub far : here.look.start < p.next.look.start
-  pub fit : Fit text p.next
-  pub same : p.next.count ≡ here.count
-  pub few : p.scope.count ≤ 8
-  pub scoped : Scoped text p.scope
-  pub read : NamesSoFar (length text) here.count (ahead text here) p.scope.count p.next.count (ahead text p.next)
-  pub made : ParametersMade text here.out read.names p.scope p.next.out
+pub record ParametersSoFar (text : List ℕ) (here s : Spot) (scope : List Variable) : Type 0 where
+  pub far : here.look.start < s.look.start
+  pub fit : Fit text s
+  pub same : s.count ≡ here.count
+  pub few : length scope ≤ 8
+  pub read : NamesSoFar (length text) here.count (ahead text here) (length scope) s.count (ahead text s)
+  pub made : ParametersMade here.out read.names scope s.out
 
 pub record Headed (text : List ℕ) (functions : List Function) (here : Spot) (m : List ℕ) (d : ADeclared) (m' : List ℕ) : Type 0 where
   pub far : here.look.start < d.next.look.start
   pub slow : d.next.out.at + 2 * here.count ≤ here.out.at + 2 * d.next.count + 2
   pub fit : Fit text d.next
   pub read : ReadHead (length text) here.count (ahead text here) d.next.count (ahead text d.next)
-  pub made : MadeHead (signed text functions) (entered text functions) here.out m read.names read.tree d.next.out m'
+  pub made : MadeHead (signed functions) (entered functions) here.out m read.names read.tree d.next.out m'
   pub counted : d.arity ≡ length (all read.names)
 
 abbrev pub GoesHead : List ℕ → List Function → Spot → List ℕ → Result ADeclared Refusal → List ℕ → Type 0
@@ -345,60 +329,56 @@ Unlimited text here before e =
 
 abbrev pub Limited : List ℕ → Spot → ℕ → Result Spot Refusal → Type 0
 Limited text here before r =
-    MatchResult r (λ s. (before < 32) × Past text here (AName (ident text here.look)) s × (s.count ≡ here.count) × Spelled text here.look) (λ e. Unlimited text here before e)
+    MatchResult r (λ s. (before < 32) × Past text here (AName (ident text here.look)) s × (s.count ≡ here.count)) (λ e. Unlimited text here before e)
 
 -- The declarations so far, whose words begin at `base`: the functions found, and what was read and made.
-pub record Tabled (text : List ℕ) (base : ℕ) (ds : List Declaration) (h : Heads) : Type 0 where
+pub record Tabled (base : ℕ) (ds : List Declaration) (h : Heads) : Type 0 where
   pub framed : h.over ≡ over_all None ds
-  pub signs : signed text (take h.count h.table) ≡ signatures ds
-  pub enters : entered text (take h.count h.table) ≡ entries base ds
+  pub signs : signed h.functions.items ≡ signatures ds
+  pub enters : entered h.functions.items ≡ entries base ds
 
 pub record DeclarationsMade (text : List ℕ) (functions : List Function) (base : ℕ) (m : List ℕ) (h : Heads) (m' : List ℕ) : Type 0 where
-  pub read : DeclarationsSoFar (length text) (tokens text) h.count h.next.count (ahead text h.next)
-  pub made : MadeHeads (signed text functions) (entered text functions) base m (all read.declared) h.next.out m'
-  pub found : Tabled text base (all read.declared) h
+  pub read : DeclarationsSoFar (length text) (tokens text) (length h.functions.items) h.next.count (ahead text h.next)
+  pub made : MadeHeads (signed functions) (entered functions) base m (all read.declared) h.next.out m'
+  pub found : Tabled base (all read.declared) h
 
 pub record DeclarationsOn (text : List ℕ) (h : Heads) : Type 0 where
-  pub few : h.count ≤ 32
+  pub few : length h.functions.items ≤ 32
   pub fit : Fit text h.next
-  pub slow : h.next.out.at ≤ 4036 + 2 * h.next.count + 2 * h.count
-  pub sized : length h.table ≡ 32
-  pub named : Declared text (take h.count h.table)
+  pub slow : h.next.out.at ≤ 4036 + 2 * h.next.count + 2 * length h.functions.items
 
--- One function more, whose name is ahead.
-abbrev pub function_at : Spot → ℕ → Function
-function_at s arity = record { start = s.look.start; end = s.look.end; arity = arity; target = s.out.at + 1 }
-
-abbrev pub added : Heads → ADeclared → Heads
-added h d = record {
-  next = d.next;
-  over = over_with h.over d.next.out.peak h.next.look.start;
-  table = slice_set h.table h.count (function_at h.next d.arity);
-  count = h.count + 1;
-}
-
--- Past that name, which may be one of those before it, with an empty frame.
+-- Past the name of a function, which may be one of those before it, with an empty frame.
 pub record PastName (text : List ℕ) (h : Heads) (s : Spot) : Type 0 where
-  pub few : h.count < 32
+  pub few : length h.functions.items < 32
   pub token : ahead text h.next ≡ AName (ident text h.next.look) ∷ ahead text s
   pub same : s.count ≡ h.next.count
   pub index : s.out.at ≡ h.next.out.at
   pub peak : s.out.peak ≡ 0
-  pub fault : s.out.fault ≡ earliest h.next.out.fault (again (spelled (entered text (take h.count h.table))) (ident text h.next.look))
+  pub fault : s.out.fault ≡ earliest h.next.out.fault (again (spelled (entered h.functions.items)) (ident text h.next.look))
+
+-- One function more, whose name was ahead.
+pub record With (text : List ℕ) (h : Heads) (d : ADeclared) (h' : Heads) : Type 0 where
+  pub next : h'.next ≡ d.next
+  pub over : h'.over ≡ over_with h.over d.next.out.peak h.next.look.start
+  pub function : Function
+  pub listed : h'.functions.items ≡ h.functions.items ++ (function ∷ [])
+  pub named : function.name.now ≡ (ident text h.next.look).name
+  pub takes : function.arity ≡ d.arity
+  pub begins : function.target ≡ h.next.out.at + 1
 
 pub record Added (text : List ℕ) (functions : List Function) (h : Heads) (m : List ℕ) (h' : Heads) (m' : List ℕ) : Type 0 where
   pub inside : Spot
   pub declared : ADeclared
   pub named : PastName text h inside
   pub headed : Headed text functions inside m declared m'
-  pub is : h' ≡ added h declared
+  pub more : With text h declared h'
   pub on : DeclarationsOn text h'
   pub far : h.next.look.start < h'.next.look.start
 
-abbrev pub GoesDeclaration : List ℕ → List Function → Heads → List ℕ → Result Heads Refusal → List ℕ → Type 0
-GoesDeclaration text functions h m r m' =
-    MatchResult r (λ h'. Added text functions h m h' m')
-    (λ e. Unlimited text h.next h.count e
+abbrev pub GoesDeclaration : List ℕ → List Function → Heads → List ℕ → Result Unit Refusal → Heads → List ℕ → Type 0
+GoesDeclaration text functions h m r h' m' =
+    MatchResult r (λ _. Added text functions h m h' m')
+    (λ e. Unlimited text h.next (length h.functions.items) e
     ⊎ ((s : Spot) × PastName text h s × BadHead (length text) s.count (ahead text s) (cause_number e.cause) e.place))
 
 abbrev pub CarriesDeclarations : List ℕ → List Function → ℕ → Heads → List ℕ → Heads → List ℕ → Type 0
@@ -410,17 +390,6 @@ GoesDeclarations text functions base m r m' =
     MatchResult r
     (λ h. DeclarationsOn text h × DeclarationsMade text functions base m h m' × NoName (ahead text h.next))
     (λ e. reading (length text) start 0 (tokens text) ≡ wrong (cause_number e.cause) e.place)
-
--- What the declarations come to, up to the recipe's own `in`, and the main expression after it.
-abbrev pub pass_of : Heads → Output → Pass
-pass_of h main = record {
-  past_functions = h.next.out.at;
-  past_main = main.at;
-  fault = main.fault;
-  over = over_with h.over main.peak h.next.look.start;
-  table = h.table;
-  count = h.count;
-}
 
 -- A frame that is too large, at its place.
 abbrev pub frame_verdict : Option ℕ → Verdict Unit
@@ -434,29 +403,15 @@ pub record Passed (text : List ℕ) (functions : List Function) (base : ℕ) (m 
   pub main : Expr
   pub reads : reading (length text) start 0 (tokens text) ≡ fine (recipe declared at_in main)
   pub functions_end : p.past_functions ≡ past_all base (all declared)
-  pub main_end : p.past_main ≡ past 1 main + 1
-  pub faulty : p.fault ≡ earliest None (twice [] (declared_names (all declared)) ++ (body_faults (signed text functions) (all declared) ++ faults (signed text functions) [] main))
+  pub main_end : p.past_main.index ≡ past 1 main + 1
+  pub faulty : p.fault ≡ earliest None (twice [] (declared_names (all declared)) ++ (body_faults (signed functions) (all declared) ++ faults (signed functions) [] main))
   pub framed : frame_verdict p.over ≡ recipe_frames (recipe declared at_in main)
-  pub few : p.count ≤ 32
-  pub sized : length p.table ≡ 32
-  pub named : Declared text (take p.count p.table)
-  pub signs : signed text (take p.count p.table) ≡ signatures (all declared)
-  pub enters : entered text (take p.count p.table) ≡ entries base (all declared)
-  pub written : m' ≡ placed (placed m base (bodies (entered text functions) base (all declared))) 1 (words (entered text functions) [] 0 1 main ++ (BACK ∷ []))
+  pub few : length p.functions.items ≤ 32
+  pub signs : signed p.functions.items ≡ signatures (all declared)
+  pub enters : entered p.functions.items ≡ entries base (all declared)
+  pub written : m' ≡ placed (placed m base (bodies (entered functions) base (all declared))) 1 (words (entered functions) [] 0 1 main ++ (BACK ∷ []))
 
+-- A pass over a text, with functions that are known.
 abbrev pub GoesRecipe : List ℕ → List Function → ℕ → List ℕ → Result Pass Refusal → List ℕ → Type 0
 GoesRecipe text functions base m r m' =
     MatchResult r (λ p. Passed text functions base m p m') (λ e. reading (length text) start 0 (tokens text) ≡ wrong (cause_number e.cause) e.place)
-
--- What a pass may be given: functions whose names lie in the text, and a place for their words that leaves room.
-abbrev pub Allowed : List ℕ → List Function → ℕ → Type 0
-Allowed text functions base = (base ≤ 4036) × Declared text functions
-
-abbrev pub AreDeclared : Bool → List ℕ → List Function → Type 0
-AreDeclared true text functions = Declared text functions
-AreDeclared false text functions = Declared text functions → ⊥
-
--- A pass; or none, and nothing is written, where it may not be given these.
-abbrev pub GoesOver : List ℕ → List Function → ℕ → List ℕ → Option (Result Pass Refusal) → List ℕ → Type 0
-GoesOver text functions base m None m' = (Allowed text functions base → ⊥) × (m' ≡ m)
-GoesOver text functions base m (Some r) m' = GoesRecipe text functions base m r m'

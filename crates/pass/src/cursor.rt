@@ -1,22 +1,15 @@
 // Where a pass stands: the token ahead of it, the constructs before it, and what their words come to.
-ghost use Rattle.std.specs.Prelude.{◌≡◌, ◌≤◌};
-ghost use Rattle.recipe.specs.Machine.{code};
-ghost use Rattle.lexer.specs.Lexed.{Valid, IsToken};
-ghost use Rattle.pass.specs.Reads.{Fit, Stepped, IsWord, Expects, Names, Enters, Opens, Counts, Adds, Multiplies, Additive, Multiplicative};
+ghost use Rattle.std.specs.Prelude.{◌≡◌, ◌+◌, ◌≤◌};
+ghost use Rattle.lexer.specs.Lexed.{IsToken, Valid};
+ghost use Rattle.pass.specs.Known.{ident};
+ghost use Rattle.pass.specs.Reads.{Fit, refused_at, Passes, Expects, Counts, Nests, holding};
 
+use crate::output::Output;
 use lexer::{Kind, Lexeme, next_token};
-use recipe::{Cause, Op, Refusal, Word};
-
-// What the words so far come to: the index of the next one, the most values that the frame holds at once, and the first fault of the names.
-#[derive(Clone, Copy)]
-pub(crate) struct Output {
-    pub(crate) at: usize,
-    pub(crate) peak: usize,
-    pub(crate) fault: Option<Refusal>,
-}
+use recipe::{Cause, Refusal};
 
 // The token ahead, the constructs before it, and what their words come to.
-#[derive(Clone, Copy)]
+#[derive(Clone, Copy, PartialEq, Eq, Debug)]
 pub(crate) struct Spot {
     pub(crate) look: Lexeme,
     pub(crate) count: usize,
@@ -24,166 +17,93 @@ pub(crate) struct Spot {
 }
 
 // How an expression stands: the nesting around it, and the values that the frame holds before it.
-#[derive(Clone, Copy)]
+#[derive(Clone, Copy, PartialEq, Eq, Debug)]
 pub(crate) struct Level {
     pub(crate) depth: usize,
     pub(crate) held: usize,
 }
 
-pub(crate) fn step(text: &[u8], look: Lexeme) -> Lexeme
-    requires { Valid text.now look }
-    ensures { Stepped text.now look result }
-{
-    next_token(text, look.end)
-}
+impl Spot {
+    // Why the text is refused, and here.
+    pub(crate) fn refused(self, cause: Cause) -> Refusal
+        ensures { result ≡ refused_at self cause }
+    {
+        Refusal {
+            cause,
+            place: self.look.start,
+        }
+    }
 
-pub(crate) fn number_of(w: Word) -> u8
-    ensures { result ≡ code w }
-{
-    match w {
-        Word::Let => 0,
-        Word::In => 1,
-        Word::Ifp => 2,
-        Word::Then => 3,
-        Word::Else => 4,
-        Word::Weigh => 5,
-        Word::Open => 6,
-        Word::Close => 7,
-        Word::Comma => 8,
-        Word::Equals => 9,
+    // The bytes of the token.
+    pub(crate) fn spelling<'t>(self, text: &'t [u8]) -> &'t [u8]
+        requires { Valid text.now self.look }
+        ensures { result.now ≡ (ident text.now self.look).name }
+    {
+        &text[self.look.start..self.look.end]
+    }
+
+    // Past the token.
+    pub(crate) fn past(self, text: &[u8]) -> Spot
+        requires { (Fit text.now self) × (IsToken self.look.kind) }
+        ensures { Passes text.now self result }
+    {
+        Spot {
+            look: next_token(text, self.look.end),
+            ..self
+        }
+    }
+
+    // Past a token of a kind, which has to stand there.
+    pub(crate) fn expect(self, text: &[u8], kind: Kind) -> Result<Spot, Refusal>
+        requires { (Fit text.now self) × (IsToken kind) }
+        ensures { Expects text.now self kind result }
+    {
+        if self.look.kind == kind {
+            Ok(self.past(text))
+        } else {
+            Err(self.refused(Cause::Grammar))
+        }
+    }
+
+    // Past a token that stands for a construct.
+    pub(crate) fn construct(self, text: &[u8]) -> Result<Spot, Refusal>
+        requires { (Fit text.now self) × (IsToken self.look.kind) }
+        ensures { Counts text.now self result }
+    {
+        if self.count < 2000 {
+            Ok(Spot {
+                count: self.count + 1,
+                ..self.past(text)
+            })
+        } else {
+            Err(self.refused(Cause::Constructs))
+        }
     }
 }
 
-pub(crate) fn is(kind: Kind, w: Word) -> bool
-    ensures { IsWord result w kind }
-{
-    match kind {
-        Kind::Word(v) => number_of(w) == number_of(v),
-        _ => false,
+impl Level {
+    // With one nesting more, which begins here.
+    pub(crate) fn deeper(self, here: &Spot) -> Result<Level, Refusal>
+        ensures { Nests self here.now result }
+    {
+        if self.depth < 32 {
+            Ok(Level {
+                depth: self.depth + 1,
+                ..self
+            })
+        } else {
+            Err(here.refused(Cause::Nesting))
+        }
     }
-}
 
-// Past the word, which has to stand there.
-pub(crate) fn expect(text: &[u8], here: Spot, w: Word) -> Result<Spot, Refusal>
-    requires { Fit text.now here }
-    ensures { Expects text.now here w result }
-{
-    if is(here.look.kind, w) {
-        Ok(Spot {
-            look: step(text, here.look),
-            ..here
-        })
-    } else {
-        Err(Refusal {
-            cause: Cause::Grammar,
-            place: here.look.start,
-        })
-    }
-}
-
-// Past a name, which has to stand there.
-pub(crate) fn name(text: &[u8], here: Spot) -> Result<Spot, Refusal>
-    requires { Fit text.now here }
-    ensures { Names text.now here result }
-{
-    match here.look.kind {
-        Kind::Name => Ok(Spot {
-            look: step(text, here.look),
-            ..here
-        }),
-        _ => Err(Refusal {
-            cause: Cause::Grammar,
-            place: here.look.start,
-        }),
-    }
-}
-
-// Past a token that stands for a construct.
-pub(crate) fn construct(text: &[u8], here: Spot) -> Result<Spot, Refusal>
-    requires { (Fit text.now here) × (IsToken here.look.kind) }
-    ensures { Counts text.now here result }
-{
-    if here.count < 2000 {
-        Ok(Spot {
-            look: step(text, here.look),
-            count: here.count + 1,
-            ..here
-        })
-    } else {
-        Err(Refusal {
-            cause: Cause::Constructs,
-            place: here.look.start,
-        })
-    }
-}
-
-// Past a `let` or an `ifp`, which nests.
-pub(crate) fn enter(text: &[u8], here: Spot, depth: usize) -> Result<Spot, Refusal>
-    requires { (Fit text.now here) × ((depth ≤ 32) × (IsToken here.look.kind)) }
-    ensures { Enters text.now here depth result }
-{
-    if depth < 32 {
-        construct(text, here)
-    } else {
-        Err(Refusal {
-            cause: Cause::Nesting,
-            place: here.look.start,
-        })
-    }
-}
-
-// Past the bracket of a call or of an expression, which nests.
-pub(crate) fn open(text: &[u8], here: Spot, depth: usize) -> Result<Spot, Refusal>
-    requires { (Fit text.now here) × ((depth ≤ 32) × (IsToken here.look.kind)) }
-    ensures { Opens text.now here depth result }
-{
-    if depth < 32 {
-        Ok(Spot {
-            look: step(text, here.look),
-            ..here
-        })
-    } else {
-        Err(Refusal {
-            cause: Cause::Nesting,
-            place: here.look.start,
-        })
-    }
-}
-
-pub(crate) fn adds(o: Op) -> bool
-    ensures { Adds result o }
-{
-    match o {
-        Op::Plus => true,
-        Op::Minus => true,
-        _ => false,
-    }
-}
-
-pub(crate) fn multiplies(o: Op) -> bool
-    ensures { Multiplies result o }
-{
-    match o {
-        Op::Times => true,
-        Op::Over => true,
-        _ => false,
-    }
-}
-
-pub(crate) fn additive(kind: Kind) -> bool
-    ensures { Additive result kind }
-{
-    match kind {
-        Kind::Operator(o) => adds(o),
-        _ => false,
-    }
-}
-
-pub(crate) fn multiplicative(kind: Kind) -> bool
-    ensures { Multiplicative result kind }
-{
-    match kind {
-        Kind::Operator(o) => multiplies(o),
-        _ => false,
+    // With more values held.
+    pub(crate) fn holding(self, more: usize) -> Level
+        requires { self.held + more ≤ 8192 }
+        ensures { result ≡ holding self more }
+    {
+        Level {
+            held: self.held + more,
+            ..self
+        }
     }
 }

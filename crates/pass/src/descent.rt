@@ -1,353 +1,288 @@
 // Expressions by recursive descent: one descent reads, judges the limits and says what the words come to.
-ghost use Rattle.std.specs.Prelude.{◌<◌};
-ghost use Rattle.pass.specs.Known.{env, Known, Kept};
-ghost use Rattle.pass.specs.Reads.{Fit, Stands, Goes, an_expr, from_expr, a_sum, from_sum, a_product, from_product, an_atom, from_atom, GoesCall, AtKind};
+ghost use Rattle.std.specs.Prelude.{◌≡◌};
+ghost use Rattle.pass.specs.Reads.{Ready, Descends, an_expr, from_expr, a_chain, from_chain, an_operand, from_operand, an_atom, from_atom, knows, GoesCall, AtKind};
 ghost use Rattle.lexer.specs.declared.Kind.TheVariants.{Name as NameKind, Word as WordKind};
 ghost use Rattle.recipe.specs.declared.Word.TheVariants.{Let as LetWord, Ifp as IfpWord, Open as OpenWord, Weigh as WeighWord};
 
-use crate::cursor::{
-    Level, Spot, additive, construct, enter, expect, is, multiplicative, name, open, step,
-};
-use crate::names::{Function, Scope, Variable, Within, call, channel, declare, load};
-use crate::output::{emit, operator, push, put, skip, word};
+use crate::chain::Chain;
+use crate::cursor::{Level, Spot};
+use crate::instruction::Instruction;
+use crate::names::{Function, Scope, Variable, Within, call, channel, load};
 use lexer::Kind;
 use recipe::{Cause, Refusal, Word};
 
+// A text, and the functions that its calls know.
+#[derive(Clone, Copy, PartialEq, Eq, Debug)]
+pub(crate) struct Descent<'t, 'f> {
+    pub(crate) text: &'t [u8],
+    pub(crate) functions: &'f [Function<'t>],
+}
+
 // The arguments of a call, and how many they are.
-#[derive(Clone, Copy)]
+#[derive(Clone, Copy, PartialEq, Eq, Debug)]
 pub(crate) struct Given {
     pub(crate) next: Spot,
     pub(crate) count: usize,
 }
 
-#[cycle(arguments_atom_binding_bracketed_choice_expression_named_product_sum)]
-pub(crate) fn expression(
-    text: &[u8],
-    functions: &[Function],
-    here: &Spot,
-    level: Level,
-    scope: &mut Scope,
-    image: &mut [u32],
-) -> Result<Spot, Refusal>
-    requires { (Fit text.now here.now) × ((Stands here.now level scope.old) × (Known text.now functions.now scope.old)) }
-    ensures goes { Goes an_expr from_expr text.now (env text.now functions.now scope.old) here.now level image.old result image.new }
-    ensures kept { Kept text.now scope.old scope.new }
-{
-    if is(here.look.kind, Word::Let) {
-        binding(text, functions, here, level, scope, image)
-    } else if is(here.look.kind, Word::Ifp) {
-        choice(text, functions, here, level, scope, image)
-    } else {
-        sum(text, functions, here, level, scope, image)
+impl<'t> Descent<'t, '_> {
+    #[cycle(expressions)]
+    pub(crate) fn expression(
+        &self,
+        here: &Spot,
+        level: Level,
+        scope: &mut Scope<'t>,
+        image: &mut [u32],
+    ) -> Result<Spot, Refusal>
+        requires { Ready self.now here.now level scope.old.items }
+        ensures goes { Descends an_expr from_expr self.now scope.old.items here.now level image.old result image.new }
+        ensures kept { scope.new ≡ scope.old }
+    {
+        match here.look.kind {
+            Kind::Word(Word::Let) => self.binding(here, level, scope, image),
+            Kind::Word(Word::Ifp) => self.choice(here, level, scope, image),
+            _ => self.chain(Chain::Sum, here, level, scope, image),
+        }
     }
-}
 
-// A let expression: the value of its first part stays on the frame under its second.
-#[cycle(arguments_atom_binding_bracketed_choice_expression_named_product_sum)]
-pub(crate) fn binding(
-    text: &[u8],
-    functions: &[Function],
-    here: &Spot,
-    level: Level,
-    scope: &mut Scope,
-    image: &mut [u32],
-) -> Result<Spot, Refusal>
-    requires { (Fit text.now here.now) × ((Stands here.now level scope.old) × ((Known text.now functions.now scope.old) × (AtKind here.now (WordKind LetWord)))) }
-    ensures goes { Goes an_expr from_expr text.now (env text.now functions.now scope.old) here.now level image.old result image.new }
-    ensures kept { Kept text.now scope.old scope.new }
-{
-    let named = enter(text, *here, level.depth)?;
-    let equals = name(text, named)?;
-    let value = expect(text, equals, Word::Equals)?;
-    let deeper = Level {
-        depth: level.depth + 1,
-        held: level.held,
-    };
-    let within = expression(text, functions, &value, deeper, scope, image)?;
-    let body = expect(text, within, Word::In)?;
-    let old = scope.count;
-    let inner = Within { scope, old };
-    let variable = Variable {
-        start: named.look.start,
-        end: named.look.end,
-        slot: level.held as u16,
-    };
-    declare(inner.scope, variable);
-    let deeper = Level {
-        held: level.held + 1,
-        ..deeper
-    };
-    let last = expression(text, functions, &body, deeper, inner.scope, image)?;
-    Ok(Spot {
-        out: emit(last.out, image, word(3, 0)),
-        ..last
-    })
-}
+    // A let expression: the value of its first part stays on the frame under its second.
+    #[cycle(expressions)]
+    fn binding(
+        &self,
+        here: &Spot,
+        level: Level,
+        scope: &mut Scope<'t>,
+        image: &mut [u32],
+    ) -> Result<Spot, Refusal>
+        requires { (Ready self.now here.now level scope.old.items) × (AtKind here.now (WordKind LetWord)) }
+        ensures goes { Descends an_expr from_expr self.now scope.old.items here.now level image.old result image.new }
+        ensures kept { scope.new ≡ scope.old }
+    {
+        let deeper = level.deeper(here)?;
+        let named = here.construct(self.text)?;
+        let equals = named.expect(self.text, Kind::Name)?;
+        let value = equals.expect(self.text, Kind::Word(Word::Equals))?;
+        let within = self.expression(&value, deeper, scope, image)?;
+        let body = within.expect(self.text, Kind::Word(Word::In))?;
+        let old = scope.len();
+        let inner = Within { scope, old };
+        inner.scope.push(Variable {
+            name: named.spelling(self.text),
+            slot: level.held as u16,
+        });
+        let last = self.expression(&body, deeper.holding(1), inner.scope, image)?;
+        Ok(Spot {
+            out: last.out.emit(image, Instruction::Out),
+            ..last
+        })
+    }
 
-// A choice by a test: a word after the test leads past the first part, and one after that past the second, once they are known.
-#[cycle(arguments_atom_binding_bracketed_choice_expression_named_product_sum)]
-pub(crate) fn choice(
-    text: &[u8],
-    functions: &[Function],
-    here: &Spot,
-    level: Level,
-    scope: &mut Scope,
-    image: &mut [u32],
-) -> Result<Spot, Refusal>
-    requires { (Fit text.now here.now) × ((Stands here.now level scope.old) × ((Known text.now functions.now scope.old) × (AtKind here.now (WordKind IfpWord)))) }
-    ensures goes { Goes an_expr from_expr text.now (env text.now functions.now scope.old) here.now level image.old result image.new }
-    ensures kept { Kept text.now scope.old scope.new }
-{
-    let test = enter(text, *here, level.depth)?;
-    let deeper = Level {
-        depth: level.depth + 1,
-        held: level.held,
-    };
-    let then = expression(text, functions, &test, deeper, scope, image)?;
-    let first = expect(text, then, Word::Then)?;
-    let branch = first.out.at;
-    let first = Spot {
-        out: skip(first.out),
-        ..first
-    };
-    let other = expression(text, functions, &first, deeper, scope, image)?;
-    let second = expect(text, other, Word::Else)?;
-    let jump = second.out.at;
-    let second = Spot {
-        out: skip(second.out),
-        ..second
-    };
-    put(image, branch, word(4, second.out.at as u32));
-    let last = expression(text, functions, &second, deeper, scope, image)?;
-    put(image, jump, word(5, last.out.at as u32));
-    Ok(last)
-}
-
-#[cycle(arguments_atom_binding_bracketed_choice_expression_named_product_sum)]
-pub(crate) fn sum(
-    text: &[u8],
-    functions: &[Function],
-    here: &Spot,
-    level: Level,
-    scope: &mut Scope,
-    image: &mut [u32],
-) -> Result<Spot, Refusal>
-    requires { (Fit text.now here.now) × ((Stands here.now level scope.old) × (Known text.now functions.now scope.old)) }
-    ensures goes { Goes a_sum from_sum text.now (env text.now functions.now scope.old) here.now level image.old result image.new }
-    ensures kept { Kept text.now scope.old scope.new }
-{
-    let mut so_far = product(text, functions, here, level, scope, image)?;
-    while additive(so_far.look.kind) {
-        let joining = operator(so_far.look.kind);
-        let right = construct(text, so_far)?;
-        let read = product(
-            text,
-            functions,
-            &right,
-            Level {
-                held: level.held + 1,
-                ..level
-            },
-            scope,
-            image,
-        )?;
-        so_far = Spot {
-            out: emit(read.out, image, joining),
-            ..read
+    // A choice by a test: a word after the test leads past the first part, and one after that past the second, once they are known.
+    #[cycle(expressions)]
+    fn choice(
+        &self,
+        here: &Spot,
+        level: Level,
+        scope: &mut Scope<'t>,
+        image: &mut [u32],
+    ) -> Result<Spot, Refusal>
+        requires { (Ready self.now here.now level scope.old.items) × (AtKind here.now (WordKind IfpWord)) }
+        ensures goes { Descends an_expr from_expr self.now scope.old.items here.now level image.old result image.new }
+        ensures kept { scope.new ≡ scope.old }
+    {
+        let deeper = level.deeper(here)?;
+        let test = here.construct(self.text)?;
+        let then = self.expression(&test, deeper, scope, image)?;
+        let branch = then.expect(self.text, Kind::Word(Word::Then))?;
+        let first = Spot {
+            out: branch.out.skip(),
+            ..branch
         };
-    }
-    Ok(so_far)
-}
-
-#[cycle(arguments_atom_binding_bracketed_choice_expression_named_product_sum)]
-pub(crate) fn product(
-    text: &[u8],
-    functions: &[Function],
-    here: &Spot,
-    level: Level,
-    scope: &mut Scope,
-    image: &mut [u32],
-) -> Result<Spot, Refusal>
-    requires { (Fit text.now here.now) × ((Stands here.now level scope.old) × (Known text.now functions.now scope.old)) }
-    ensures goes { Goes a_product from_product text.now (env text.now functions.now scope.old) here.now level image.old result image.new }
-    ensures kept { Kept text.now scope.old scope.new }
-{
-    let mut so_far = atom(text, functions, here, level, scope, image)?;
-    while multiplicative(so_far.look.kind) {
-        let joining = operator(so_far.look.kind);
-        let right = construct(text, so_far)?;
-        let read = atom(
-            text,
-            functions,
-            &right,
-            Level {
-                held: level.held + 1,
-                ..level
-            },
-            scope,
-            image,
-        )?;
-        so_far = Spot {
-            out: emit(read.out, image, joining),
-            ..read
+        let other = self.expression(&first, deeper, scope, image)?;
+        let jump = other.expect(self.text, Kind::Word(Word::Else))?;
+        let second = Spot {
+            out: jump.out.skip(),
+            ..jump
         };
+        branch
+            .out
+            .put(image, Instruction::Unless(second.out.at as u16));
+        let last = self.expression(&second, deeper, scope, image)?;
+        jump.out.put(image, Instruction::Go(last.out.at as u16));
+        Ok(last)
     }
-    Ok(so_far)
-}
 
-#[cycle(arguments_atom_binding_bracketed_choice_expression_named_product_sum)]
-pub(crate) fn atom(
-    text: &[u8],
-    functions: &[Function],
-    here: &Spot,
-    level: Level,
-    scope: &mut Scope,
-    image: &mut [u32],
-) -> Result<Spot, Refusal>
-    requires { (Fit text.now here.now) × ((Stands here.now level scope.old) × (Known text.now functions.now scope.old)) }
-    ensures goes { Goes an_atom from_atom text.now (env text.now functions.now scope.old) here.now level image.old result image.new }
-    ensures kept { Kept text.now scope.old scope.new }
-{
-    if is(here.look.kind, Word::Weigh) {
-        weighing(text, functions, here, level, scope, image)
-    } else if is(here.look.kind, Word::Open) {
-        bracketed(text, functions, here, level, scope, image)
-    } else {
+    // A sum or a product.
+    #[cycle(expressions)]
+    fn chain(
+        &self,
+        chain: Chain,
+        here: &Spot,
+        level: Level,
+        scope: &mut Scope<'t>,
+        image: &mut [u32],
+    ) -> Result<Spot, Refusal>
+        requires { Ready self.now here.now level scope.old.items }
+        ensures goes { Descends (a_chain chain) (from_chain chain) self.now scope.old.items here.now level image.old result image.new }
+        ensures kept { scope.new ≡ scope.old }
+    {
+        let mut so_far = self.operand(chain, here, level, scope, image)?;
+        while let Some(op) = chain.operator(so_far.look.kind) {
+            let right = so_far.construct(self.text)?;
+            let read = self.operand(chain, &right, level.holding(1), scope, image)?;
+            so_far = Spot {
+                out: read.out.emit(image, Instruction::Operator(op)),
+                ..read
+            };
+        }
+        Ok(so_far)
+    }
+
+    // What a chain joins: a product in a sum, an atom in a product.
+    #[cycle(expressions)]
+    fn operand(
+        &self,
+        chain: Chain,
+        here: &Spot,
+        level: Level,
+        scope: &mut Scope<'t>,
+        image: &mut [u32],
+    ) -> Result<Spot, Refusal>
+        requires { Ready self.now here.now level scope.old.items }
+        ensures goes { Descends (an_operand chain) (from_operand chain) self.now scope.old.items here.now level image.old result image.new }
+        ensures kept { scope.new ≡ scope.old }
+    {
+        match chain {
+            Chain::Sum => self.chain(Chain::Product, here, level, scope, image),
+            Chain::Product => self.atom(here, level, scope, image),
+        }
+    }
+
+    #[cycle(expressions)]
+    fn atom(
+        &self,
+        here: &Spot,
+        level: Level,
+        scope: &mut Scope<'t>,
+        image: &mut [u32],
+    ) -> Result<Spot, Refusal>
+        requires { Ready self.now here.now level scope.old.items }
+        ensures goes { Descends an_atom from_atom self.now scope.old.items here.now level image.old result image.new }
+        ensures kept { scope.new ≡ scope.old }
+    {
         match here.look.kind {
             Kind::Number(value) => {
-                let after = construct(text, *here)?;
+                let after = here.construct(self.text)?;
                 Ok(Spot {
-                    out: push(after.out, level.held, image, word(0, value)),
+                    out: after
+                        .out
+                        .push(level.held, image, Instruction::Number(value)),
                     ..after
                 })
             }
-            Kind::Name => named(text, functions, here, level, scope, image),
-            _ => Err(Refusal {
-                cause: Cause::Grammar,
-                place: here.look.start,
-            }),
+            Kind::Name => self.named(here, level, scope, image),
+            Kind::Word(Word::Weigh) => self.weighing(here, level, scope, image),
+            Kind::Word(Word::Open) => self.bracketed(here, level, scope, image),
+            _ => Err(here.refused(Cause::Grammar)),
         }
     }
-}
 
-pub(crate) fn weighing(
-    text: &[u8],
-    functions: &[Function],
-    here: &Spot,
-    level: Level,
-    scope: &Scope,
-    image: &mut [u32],
-) -> Result<Spot, Refusal>
-    requires { (Fit text.now here.now) × ((Stands here.now level scope.now) × ((Known text.now functions.now scope.now) × (AtKind here.now (WordKind WeighWord)))) }
-    ensures { Goes an_atom from_atom text.now (env text.now functions.now scope.now) here.now level image.old result image.new }
-{
-    let after = construct(text, *here)?;
-    match after.look.kind {
-        Kind::Number(value) => {
-            let out = channel(after.out, level.held, value, after.look.start, image);
-            Ok(Spot {
-                look: step(text, after.look),
-                out,
-                ..after
-            })
+    fn weighing(
+        &self,
+        here: &Spot,
+        level: Level,
+        scope: &Scope<'t>,
+        image: &mut [u32],
+    ) -> Result<Spot, Refusal>
+        requires { (Ready self.now here.now level scope.now.items) × (AtKind here.now (WordKind WeighWord)) }
+        ensures { Descends an_atom from_atom self.now scope.now.items here.now level image.old result image.new }
+    {
+        let after = here.construct(self.text)?;
+        match after.look.kind {
+            Kind::Number(value) => {
+                let out = channel(after.out, level.held, value, after.look.start, image);
+                Ok(Spot {
+                    out,
+                    ..after.past(self.text)
+                })
+            }
+            _ => Err(after.refused(Cause::Grammar)),
         }
-        _ => Err(Refusal {
-            cause: Cause::Grammar,
-            place: after.look.start,
-        }),
     }
-}
 
-#[cycle(arguments_atom_binding_bracketed_choice_expression_named_product_sum)]
-pub(crate) fn bracketed(
-    text: &[u8],
-    functions: &[Function],
-    here: &Spot,
-    level: Level,
-    scope: &mut Scope,
-    image: &mut [u32],
-) -> Result<Spot, Refusal>
-    requires { (Fit text.now here.now) × ((Stands here.now level scope.old) × ((Known text.now functions.now scope.old) × (AtKind here.now (WordKind OpenWord)))) }
-    ensures goes { Goes an_atom from_atom text.now (env text.now functions.now scope.old) here.now level image.old result image.new }
-    ensures kept { Kept text.now scope.old scope.new }
-{
-    let inner = open(text, *here, level.depth)?;
-    let within = expression(
-        text,
-        functions,
-        &inner,
-        Level {
-            depth: level.depth + 1,
-            held: level.held,
-        },
-        scope,
-        image,
-    )?;
-    expect(text, within, Word::Close)
-}
-
-// A variable or a call.
-#[cycle(arguments_atom_binding_bracketed_choice_expression_named_product_sum)]
-pub(crate) fn named(
-    text: &[u8],
-    functions: &[Function],
-    here: &Spot,
-    level: Level,
-    scope: &mut Scope,
-    image: &mut [u32],
-) -> Result<Spot, Refusal>
-    requires { (Fit text.now here.now) × ((Stands here.now level scope.old) × ((Known text.now functions.now scope.old) × (AtKind here.now NameKind))) }
-    ensures goes { Goes an_atom from_atom text.now (env text.now functions.now scope.old) here.now level image.old result image.new }
-    ensures kept { Kept text.now scope.old scope.new }
-{
-    let after = construct(text, *here)?;
-    if is(after.look.kind, Word::Open) {
-        let inner = open(text, after, level.depth)?;
-        let given = arguments(text, functions, &inner, level, scope, image)?;
-        let out = call(
-            text,
-            functions,
-            here.look,
-            given.count,
-            given.next.out,
-            image,
-        );
-        Ok(Spot { out, ..given.next })
-    } else {
-        let out = load(text, scope, here.look, after.out, level.held, image);
-        Ok(Spot { out, ..after })
+    #[cycle(expressions)]
+    fn bracketed(
+        &self,
+        here: &Spot,
+        level: Level,
+        scope: &mut Scope<'t>,
+        image: &mut [u32],
+    ) -> Result<Spot, Refusal>
+        requires { (Ready self.now here.now level scope.old.items) × (AtKind here.now (WordKind OpenWord)) }
+        ensures goes { Descends an_atom from_atom self.now scope.old.items here.now level image.old result image.new }
+        ensures kept { scope.new ≡ scope.old }
+    {
+        let deeper = level.deeper(here)?;
+        let inner = here.past(self.text);
+        let within = self.expression(&inner, deeper, scope, image)?;
+        within.expect(self.text, Kind::Word(Word::Close))
     }
-}
 
-// A call's arguments, from the token after its bracket on; the call stands in a nesting of `level.depth`.
-#[cycle(arguments_atom_binding_bracketed_choice_expression_named_product_sum)]
-pub(crate) fn arguments(
-    text: &[u8],
-    functions: &[Function],
-    here: &Spot,
-    level: Level,
-    scope: &mut Scope,
-    image: &mut [u32],
-) -> Result<Given, Refusal>
-    requires { (Fit text.now here.now) × ((Stands here.now level scope.old) × ((Known text.now functions.now scope.old) × (level.depth < 32))) }
-    ensures goes { GoesCall text.now (env text.now functions.now scope.old) here.now level image.old result image.new }
-    ensures kept { Kept text.now scope.old scope.new }
-{
-    let deeper = Level {
-        depth: level.depth + 1,
-        held: level.held,
-    };
-    let mut so_far = expression(text, functions, here, deeper, scope, image)?;
-    let mut count: usize = 1;
-    while is(so_far.look.kind, Word::Comma) {
-        let next = expect(text, so_far, Word::Comma)?;
-        let deeper = Level {
-            held: level.held + count,
-            ..deeper
-        };
-        so_far = expression(text, functions, &next, deeper, scope, image)?;
-        count += 1;
+    // A variable or a call.
+    #[cycle(expressions)]
+    fn named(
+        &self,
+        here: &Spot,
+        level: Level,
+        scope: &mut Scope<'t>,
+        image: &mut [u32],
+    ) -> Result<Spot, Refusal>
+        requires { (Ready self.now here.now level scope.old.items) × (AtKind here.now NameKind) }
+        ensures goes { Descends an_atom from_atom self.now scope.old.items here.now level image.old result image.new }
+        ensures kept { scope.new ≡ scope.old }
+    {
+        let name = here.spelling(self.text);
+        let place = here.look.start;
+        let after = here.construct(self.text)?;
+        if after.look.kind == Kind::Word(Word::Open) {
+            let deeper = level.deeper(&after)?;
+            let inner = after.past(self.text);
+            let given = self.arguments(&inner, deeper, scope, image)?;
+            let out = call(
+                self.functions,
+                name,
+                place,
+                given.count,
+                given.next.out,
+                image,
+            );
+            Ok(Spot { out, ..given.next })
+        } else {
+            let out = load(scope, name, place, after.out, level.held, image);
+            Ok(Spot { out, ..after })
+        }
     }
-    let next = expect(text, so_far, Word::Close)?;
-    Ok(Given { next, count })
+
+    // A call's arguments, from the token after its bracket on.
+    #[cycle(expressions)]
+    fn arguments(
+        &self,
+        here: &Spot,
+        level: Level,
+        scope: &mut Scope<'t>,
+        image: &mut [u32],
+    ) -> Result<Given, Refusal>
+        requires { Ready self.now here.now level scope.old.items }
+        ensures goes { GoesCall self.now.text.now (knows self.now scope.old.items) here.now level image.old result image.new }
+        ensures kept { scope.new ≡ scope.old }
+    {
+        let mut so_far = self.expression(here, level, scope, image)?;
+        let mut count: usize = 1;
+        while let Ok(next) = so_far.expect(self.text, Kind::Word(Word::Comma)) {
+            so_far = self.expression(&next, level.holding(count), scope, image)?;
+            count += 1;
+        }
+        let next = so_far.expect(self.text, Kind::Word(Word::Close))?;
+        Ok(Given { next, count })
+    }
 }

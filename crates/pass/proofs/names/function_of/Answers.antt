@@ -1,19 +1,9 @@
-use Rattle.std.proofs.Common.{sym, ◌∙◌, arith}
-use Rattle.std.specs.List.{between}
-use Rattle.pass.proofs.Lookups.{first_here, first_after, first_none}
+use Rattle.std.proofs.Common.{◌∙◌, rules, tests}
+use Rattle.std.specs.Str.{bytes_eq}
+use Rattle.std.proofs.lemmas.Iterator.{YieldsList-from_slice}
+use Rattle.std.proofs.lemmas.Iterator.Search.{find_from_yields_List}
 use Rattle.pass.proofs.names.function_of.Goals as goal
-
-pub returns-then-same_name : goal.returns-then-same_name
-returns-then-same_name c =
-    let x = between c.args.name.start c.args.name.end c.args.text.now in
-    sym (c.loop-k.invariant.1 ∙ first_here c.args.text.now c.args.functions.now x c.loop-k.k _ c.loop-k-test.true (sym c.if-same_name.ensures))
-
-pub loop-k-preserved : goal.loop-k-preserved
-loop-k-preserved c =
-    let x = between c.args.name.start c.args.name.end c.args.text.now in
-    (omega arith, c.loop-k.invariant.1 ∙ first_after c.args.text.now c.args.functions.now x c.loop-k.k _ c.loop-k-test.true (sym c.if-same_name.ensures))
 
 pub returns : goal.returns
 returns c =
-    let x = between c.args.name.start c.args.name.end c.args.text.now in
-    sym (c.loop-k.invariant.1 ∙ first_none c.args.text.now c.args.functions.now x c.loop-k.k c.loop-k-test.false)
+    c.copied.ensures ∙ find_from_yields_List (λ f. bytes_eq c.args.name.now f.name.now) _ _ _ c.find.ensures.ran (YieldsList-from_slice c.args.functions.now cc) (λ x b q k. search (rules, tests))

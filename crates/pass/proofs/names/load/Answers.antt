@@ -1,34 +1,30 @@
 use Rattle.std.proofs.Common.{set, is_some, sym, ap, ◌∙◌}
-use Rattle.std.specs.List.{between}
 use Rattle.recipe.specs.Names.{fault_unless}
 use Rattle.recipe.specs.Image.{VAR}
 use Rattle.recipe.specs.declared.cause.Cause.TheVariants.{UnknownName}
-use Rattle.pass.specs.Known.{force}
+use Rattle.pass.specs.declared.output.Output.{Output}
+use Rattle.pass.specs.Known.{in_force}
 use Rattle.pass.specs.Outputs.{pushed, faulted}
 use Rattle.pass.proofs.Lookups.{among_slot, slot_or, find_slot}
 use Rattle.pass.proofs.names.load.Goals as goal
 
 pub returns-in-Some : goal.returns-in-Some
 returns-in-Some c =
-    let text = c.args.text.now in
-    let n = c.args.name in
-    let Γ = force text c.args.scope.now in
-    let x = between n.start n.end text in
+    let Γ = in_force c.args.scope.now in
+    let x = c.args.name.now in
     let slot = sym c.in-Some.ensures in
     record {
-      made = c.push.ensures.made ∙ ap (λ t. pushed c.args.held (faulted c.args.out (fault_unless t n.start UnknownName))) (sym (among_slot Γ x ∙ ap is_some slot));
-      written = c.push.ensures.written ∙ ap (set c.args.image.now c.args.out.at) (c.word.ensures ∙ ap VAR (sym (find_slot Γ x ∙ ap slot_or slot)));
+      made = c.push.ensures.made ∙ ap (λ t. pushed c.args.held (faulted c.args.out (fault_unless t c.args.place UnknownName))) (sym (among_slot Γ x ∙ ap is_some slot));
+      written = c.push.ensures.written ∙ ap (set c.args.image.now c.args.out.at) (ap VAR (sym (find_slot Γ x ∙ ap slot_or slot)));
     }
 
 pub returns-in-None : goal.returns-in-None
 returns-in-None c =
-    let text = c.args.text.now in
-    let n = c.args.name in
-    let Γ = force text c.args.scope.now in
-    let x = between n.start n.end text in
+    let Γ = in_force c.args.scope.now in
+    let x = c.args.name.now in
     let slot = sym c.in-None.ensures in
-    let noted = c.unless.ensures in
+    let noted = c.note.ensures in
     record {
-      made = c.push-in-None.ensures.made ∙ (ap (pushed c.args.held) noted ∙ ap (λ t. pushed c.args.held (faulted c.args.out (fault_unless t n.start UnknownName))) (sym (among_slot Γ x ∙ ap is_some slot)));
-      written = c.push-in-None.ensures.written ∙ (ap (λ o. set c.args.image.now o.at c.word-in-None.result) noted ∙ ap (set c.args.image.now c.args.out.at) (c.word-in-None.ensures ∙ ap VAR (sym (find_slot Γ x ∙ ap slot_or slot))));
+      made = c.push-in-None.ensures.made ∙ (ap (pushed c.args.held) noted ∙ ap (λ t. pushed c.args.held (faulted c.args.out (fault_unless t c.args.place UnknownName))) (sym (among_slot Γ x ∙ ap is_some slot)));
+      written = c.push-in-None.ensures.written ∙ (ap (λ (o : Output). set c.args.image.now o.at (VAR 0)) noted ∙ ap (set c.args.image.now c.args.out.at) (ap VAR (sym (find_slot Γ x ∙ ap slot_or slot))));
     }

@@ -1,15 +1,15 @@
-use Rattle.std.proofs.Common.{ℕ, length, None, Option, sym, refl, ap, ◌∙◌, subst}
+use Rattle.std.proofs.Common.{ℕ, length, None, Option, refl, ap, ◌∙◌, arith}
 use Rattle.std.proofs.lemmas.Result.{err_from_is_err_and}
-use Rattle.pass.specs.declared.passes.Pass.{Pass}
 use Rattle.recipe.specs.Names.{all}
-use Rattle.pass.specs.Known.{signed, entered, in_force}
+use Rattle.pass.specs.Known.{env}
 use Rattle.pass.specs.Outputs.{over_with, over_all}
-use Rattle.pass.specs.Reads.{frame_verdict, Passed}
+use Rattle.pass.specs.Reads.{frame_verdict}
+use Rattle.lexer.specs.declared.Kind.TheVariants.{End}
 use Rattle.pass.proofs.Steps.{known_ahead, declarations_bad, main_bad, main_read}
 use Rattle.pass.proofs.Makes.{fault_of}
 use Rattle.pass.proofs.Tables.{frames_over}
 use Rattle.pass.proofs.Recipes.{main_made}
-use Rattle.pass.proofs.passes.run.Goals as goal
+use Rattle.pass.proofs.passes.over.Goals as goal
 
 pub returns-in_err-within : goal.returns-in_err-within
 returns-in_err-within c =
@@ -25,9 +25,9 @@ returns-in_err-last c =
     let p = err_from_is_err_and c.from_residual-in_err-last.result c.from_residual-in_err-last.ensures.1 in
     rw (p.1, p.2) (main_bad (length c.args.text.now) g.1.read w.0.token g.0.fit.1 w.1 c.in_err-last.ensures.goes)
 
-pub returns-in-End : goal.returns-in-End
+pub returns : goal.returns
 unfolding main_read
-returns-in-End c =
+returns c =
     let text = c.args.text.now in
     let h = c.in_ok-heads.heads in
     let g = c.in_ok-heads.ensures in
@@ -37,24 +37,20 @@ returns-in-End c =
     let d = g.1 in
     let ds = all d.read.declared in
     let e = r.read.tree in
-    let scope = c.no_names-empty.result in
-    let v = ap (λ k. record { signatures = signed text c.args.functions.now; entries = entered text c.args.functions.now; in_scope = in_force text scope.names k }) c.no_names-empty.ensures.0 in
-    let m = main_made text c.args.base c.args.image.now ds e scope v refl refl (fault_of w.0.out ∙ d.made.fault) d.made.written
-    r.made c.emit-out.ensures.made c.emit-out.ensures.written c.word.ensures in
-    subst (λ (p : Pass). Passed text c.args.functions.now c.args.base c.args.image.now p c.emit-out.new.image) (sym c.pass_of.ensures) (record {
+    let m = main_made c.args.base.index c.args.image.now ds e (ap (λ vs. env c.args.functions.now vs) c.new.ensures) refl refl (fault_of w.0.out ∙ d.made.fault) d.made.written
+    r.made c.emit-out.ensures.made c.emit-out.ensures.written refl in
+    record {
       declared = d.read.declared;
       at_in = h.next.look.start;
       main = e;
-      reads = (main_read (length text) d.read w.0.token g.0.fit.1 w.1 r.read (known_ahead text l.start l.end c.in-End.is)).1;
+      reads = (main_read (length text) d.read w.0.token g.0.fit.1 w.1 r.read (known_ahead text {k' = End} l.start l.end (grind arith))).1;
       functions_end = d.made.index;
       main_end = m.0;
       faulty = m.2;
-      framed = ap frame_verdict (ap (λ (o : Option ℕ). over_with o c.emit-out.result.peak h.next.look.start) d.found.framed ∙ ap (λ n. over_with (over_all None ds) n h.next.look.start) m.1)
-          ∙ frames_over ds h.next.look.start e;
+      framed = ap frame_verdict (c.first_over.ensures ∙ (ap (λ (o : Option ℕ). over_with o c.emit-out.result.peak h.next.look.start) d.found.framed
+          ∙ ap (λ n. over_with (over_all None ds) n h.next.look.start) m.1)) ∙ frames_over ds h.next.look.start e;
       few = g.0.few;
-      sized = g.0.sized;
-      named = g.0.named;
       signs = d.found.signs;
       enters = d.found.enters;
       written = m.3;
-    })
+    }

@@ -1,0 +1,54 @@
+// What the words of an image do.
+ghost use Rattle.std.specs.Prelude.{◌≡◌, ◌≤◌};
+ghost use Rattle.recipe.specs.Image.{word as word_of};
+ghost use Rattle.pass.specs.Outputs.{word_for, Holds};
+
+use recipe::Op;
+
+// What a word does: it pushes a number, a variable or the weight held for a channel, joins two values, removes the one under the
+// top, goes to a target (unless a value is positive), calls, returns, or begins a function.
+#[derive(Clone, Copy, PartialEq, Eq, Debug)]
+pub(crate) enum Instruction {
+    Number(u32),
+    Variable(u16),
+    Operator(Op),
+    Out,
+    Unless(u16),
+    Go(u16),
+    Call(u16, u16),
+    Back,
+    Weigh(u32),
+    Function(u16),
+}
+
+impl Instruction {
+    // The word that stands for it.
+    pub(crate) fn word(self) -> u32
+        requires { Holds self }
+        ensures { result ≡ word_for self }
+    {
+        match self {
+            Instruction::Number(value) => word(0, value),
+            Instruction::Variable(slot) => word(1, slot as u32),
+            Instruction::Operator(Op::Plus) => word(2, 0),
+            Instruction::Operator(Op::Minus) => word(2, 1),
+            Instruction::Operator(Op::Times) => word(2, 2),
+            Instruction::Operator(Op::Over) => word(2, 3),
+            Instruction::Out => word(3, 0),
+            Instruction::Unless(target) => word(4, target as u32),
+            Instruction::Go(target) => word(5, target as u32),
+            Instruction::Call(arity, target) => word(6, arity as u32 * 65536 + target as u32),
+            Instruction::Back => word(7, 0),
+            Instruction::Weigh(channel) => word(8, channel),
+            Instruction::Function(arity) => word(10, arity as u32),
+        }
+    }
+}
+
+// A word: its kind, and its operand in the low 28 bits.
+fn word(kind: u32, operand: u32) -> u32
+    requires { (kind ≤ 10) × (operand ≤ 268435455) }
+    ensures { result ≡ word_of kind operand }
+{
+    kind * 268435456 + operand
+}
