@@ -279,7 +279,7 @@ named-returns-in_ok-given-clause-goes t c =
       on = further c.requires.0.0 c.in_ok-given.given.next r.on.fit (omega (arith, a.0.far, p.0.far, r.on.far)) (omega (arith, a.1, p.1, r.on.more)) _
           (omega (arith, a.1, p.1, at_of o, r.on.slow, at_of c.call-out.ensures.made));
       read = call_read (length text) _ (past_kind c.requires.1 a.0) a.1 a.0.fit.1 e i.0 p.1 r.read;
-      made = made_call (ident text l) (from MadeAll o r.made) g.counted (rw c.spelling-name.ensures at c.call-out.ensures.made) (rw c.spelling-name.ensures at c.call-out.ensures.written);
+      made = made_call (ident text l) (from MadeAll o r.made) g.counted c.call-out.ensures.made c.call-out.ensures.written;
     }
 
 pub named-returns-else-eq-clause-goes : goal.named-returns-else-eq-clause-goes
@@ -291,5 +291,5 @@ named-returns-else-eq-clause-goes t c =
     record {
       on = further c.requires.0.0 c.in_ok-after.after a.0.fit a.0.far (omega (arith, a.1)) _ (omega (arith, a.1, at_of c.load-out.ensures.made, at_of a.0.out));
       read = name_read (length text) _ (past_kind c.requires.1 a.0) a.1 a.0.fit.1 (other text Open m.kind m.start m.end (grind arith));
-      made = from Made a.0.out (made_var (ident text c.args.here.now.look) (rw (c.spelling-name.ensures, c.deref.ensures.0) at c.load-out.ensures.made) (rw (c.spelling-name.ensures, c.deref.ensures.0) at c.load-out.ensures.written));
+      made = from Made a.0.out (made_var (ident text c.args.here.now.look) (rw c.deref.ensures.0 at c.load-out.ensures.made) (rw c.deref.ensures.0 at c.load-out.ensures.written));
     }
