@@ -19,6 +19,12 @@ impl Base {
         }
         Some(Base { index })
     }
+
+    pub fn index(self) -> usize
+        ensures { result ≡ self.index }
+    {
+        self.index
+    }
 }
 
 impl Default for Base {

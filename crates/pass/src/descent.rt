@@ -7,7 +7,7 @@ ghost use Rattle.recipe.specs.declared.Word.TheVariants.{Let as LetWord, Ifp as 
 use crate::chain::Chain;
 use crate::cursor::{Level, Spot};
 use crate::instruction::Instruction;
-use crate::names::{Function, Scope, Variable, Within, call, channel, load};
+use crate::names::{Function, Scope, Variable, Within};
 use lexer::Kind;
 use recipe::{Cause, Refusal, Word};
 
@@ -200,7 +200,7 @@ impl<'t> Descent<'t, '_> {
         let after = here.construct(self.text)?;
         match after.look.kind {
             Kind::Number(value) => {
-                let out = channel(after.out, level.held, value, after.look.start, image);
+                let out = after.channel(level.held, value, image);
                 Ok(Spot {
                     out,
                     ..after.past(self.text)
@@ -241,24 +241,15 @@ impl<'t> Descent<'t, '_> {
         ensures goes { Descends an_atom from_atom self.now scope.old.items here.now level image.old result image.new }
         ensures kept { scope.new ≡ scope.old }
     {
-        let name = here.spelling(self.text);
-        let place = here.look.start;
         let after = here.construct(self.text)?;
         if after.look.kind == Kind::Word(Word::Open) {
             let deeper = level.deeper(&after)?;
             let inner = after.past(self.text);
             let given = self.arguments(&inner, deeper, scope, image)?;
-            let out = call(
-                self.functions,
-                name,
-                place,
-                given.count,
-                given.next.out,
-                image,
-            );
+            let out = self.call(here, given.count, given.next.out, image);
             Ok(Spot { out, ..given.next })
         } else {
-            let out = load(scope, name, place, after.out, level.held, image);
+            let out = self.load(here, scope, after.out, level.held, image);
             Ok(Spot { out, ..after })
         }
     }

@@ -3,13 +3,16 @@ ghost use Rattle.std.specs.Prelude.{◌≡◌, ◌≤◌, ◌&&◌, nat_le, take
 ghost use Rattle.recipe.specs.declared.cause.Cause.TheVariants.{Channel, UnknownName};
 ghost use Rattle.recipe.specs.Names.{fault_unless, among, arity_of, call_faults};
 ghost use Rattle.recipe.specs.Image.{VAR, WEIGH, CALL, find};
-ghost use Rattle.pass.specs.Known.{entered, in_force, spelled, slot_in, first_of, signed};
+ghost use Rattle.lexer.specs.Lexed.{Valid};
+ghost use Rattle.pass.specs.Known.{ident, entered, in_force, spelled, slot_in, first_of, signed};
 ghost use Rattle.pass.specs.Outputs.{emitted, pushed, faulted};
 
+use crate::cursor::Spot;
+use crate::descent::Descent;
 use crate::instruction::Instruction;
 use crate::output::Output;
 use arrayvec::ArrayVec;
-use recipe::{Cause, Refusal};
+use recipe::Cause;
 
 // A function: its name, how many parameters it has, and the index of its first word.
 #[derive(Clone, Copy, PartialEq, Eq, Debug, Default)]
@@ -58,80 +61,61 @@ pub(crate) fn function_of<'t>(functions: &[Function<'t>], name: &[u8]) -> Option
     functions.iter().find(|f| name == f.name).copied()
 }
 
-// The word of a variable, which has to be in force.
-pub(crate) fn load(
-    scope: &[Variable],
-    name: &[u8],
-    place: usize,
-    out: Output,
-    held: usize,
-    image: &mut [u32],
-) -> Output
-    requires { (out.at ≤ 8192) × (held ≤ 4000) }
-    ensures made { result ≡ pushed held (faulted out (fault_unless (among (spelled (in_force scope.now)) name.now) place UnknownName)) }
-    ensures written { image.new ≡ slice_set image.old out.at (VAR (find (in_force scope.now) name.now)) }
-{
-    match slot_of(scope, name) {
-        Some(slot) => out.push(held, image, Instruction::Variable(slot)),
-        None => out
-            .note(Some(Refusal {
-                cause: Cause::UnknownName,
-                place,
-            }))
-            .push(held, image, Instruction::Variable(0)),
+impl Spot {
+    // The word of a weighing, whose channel is the number of the token and one of 64.
+    pub(crate) fn channel(self, held: usize, value: u32, image: &mut [u32]) -> Output
+        requires { (self.out.at ≤ 8192) × ((held ≤ 4000) × (value ≤ 268435455)) }
+        ensures made { result ≡ pushed held (faulted self.out (fault_unless (nat_le 1 value && nat_le value 64) self.look.start Channel)) }
+        ensures written { image.new ≡ slice_set image.old self.out.at (WEIGH value) }
+    {
+        let known = 1 <= value && value <= 64;
+        let fault = (!known).then_some(self.refused(Cause::Channel));
+        self.out
+            .note(fault)
+            .push(held, image, Instruction::Weigh(value))
     }
 }
 
-// The word of a weighing, whose channel is one of 64.
-pub(crate) fn channel(
-    out: Output,
-    held: usize,
-    value: u32,
-    place: usize,
-    image: &mut [u32],
-) -> Output
-    requires { (out.at ≤ 8192) × ((held ≤ 4000) × (value ≤ 268435455)) }
-    ensures made { result ≡ pushed held (faulted out (fault_unless (nat_le 1 value && nat_le value 64) place Channel)) }
-    ensures written { image.new ≡ slice_set image.old out.at (WEIGH value) }
-{
-    let fault = if 1 <= value && value <= 64 {
-        None
-    } else {
-        Some(Refusal {
-            cause: Cause::Channel,
-            place,
-        })
-    };
-    out.note(fault).push(held, image, Instruction::Weigh(value))
-}
-
-// The word of a call of a function, which has to take as many arguments.
-pub(crate) fn call(
-    functions: &[Function],
-    name: &[u8],
-    place: usize,
-    given: usize,
-    out: Output,
-    image: &mut [u32],
-) -> Output
-    requires { (out.at ≤ 8192) × (given ≤ 4000) }
-    ensures made { result ≡ emitted (faulted out (call_faults (arity_of (signed functions.now) name.now) given place)) }
-    ensures written { image.new ≡ slice_set image.old out.at (CALL given (find (entered functions.now) name.now)) }
-{
-    match function_of(functions, name) {
-        Some(f) => {
-            let fault = (f.arity != given).then_some(Refusal {
-                cause: Cause::ArgumentCount,
-                place,
-            });
-            out.note(fault)
-                .emit(image, Instruction::Call(given as u16, f.target))
+impl Descent<'_, '_> {
+    // The word of the variable that is named here, which has to be in force.
+    pub(crate) fn load(
+        &self,
+        here: &Spot,
+        scope: &[Variable],
+        out: Output,
+        held: usize,
+        image: &mut [u32],
+    ) -> Output
+        requires { (Valid self.now.text.now here.now.look) × ((out.at ≤ 8192) × (held ≤ 4000)) }
+        ensures made { let x = ident self.now.text.now here.now.look in
+            result ≡ pushed held (faulted out (fault_unless (among (spelled (in_force scope.now)) x.name) x.place UnknownName)) }
+        ensures written { image.new ≡ slice_set image.old out.at (VAR (find (in_force scope.now) (ident self.now.text.now here.now.look).name)) }
+    {
+        match slot_of(scope, here.spelling(self.text)) {
+            Some(slot) => out.push(held, image, Instruction::Variable(slot)),
+            None => out
+                .note(Some(here.refused(Cause::UnknownName)))
+                .push(held, image, Instruction::Variable(0)),
         }
-        None => out
-            .note(Some(Refusal {
-                cause: Cause::UnknownName,
-                place,
-            }))
-            .emit(image, Instruction::Call(given as u16, 0)),
+    }
+
+    // The word of a call of the function that is named here, which has to take as many arguments.
+    pub(crate) fn call(&self, here: &Spot, given: usize, out: Output, image: &mut [u32]) -> Output
+        requires { (Valid self.now.text.now here.now.look) × ((out.at ≤ 8192) × (given ≤ 4000)) }
+        ensures made { let f = ident self.now.text.now here.now.look in
+            result ≡ emitted (faulted out (call_faults (arity_of (signed self.now.functions.now) f.name) given f.place)) }
+        ensures written { image.new ≡ slice_set image.old out.at
+            (CALL given (find (entered self.now.functions.now) (ident self.now.text.now here.now.look).name)) }
+    {
+        match function_of(self.functions, here.spelling(self.text)) {
+            Some(f) => {
+                let fault = (f.arity != given).then_some(here.refused(Cause::ArgumentCount));
+                out.note(fault)
+                    .emit(image, Instruction::Call(given as u16, f.target))
+            }
+            None => out
+                .note(Some(here.refused(Cause::UnknownName)))
+                .emit(image, Instruction::Call(given as u16, 0)),
+        }
     }
 }
