@@ -6,5 +6,6 @@ pub mod Arguments
 pub mod Understood
 pub mod OfRecipes
 pub mod Trimmed
+pub mod Printed
 pub mod Laws
 pub mod Worked

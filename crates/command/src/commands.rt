@@ -26,13 +26,11 @@ fn load(rest: &mut Arguments<Verb>) -> Result<Load, Misread<Verb, Wanted>>
 fn channels(heap: Global, rest: &mut Arguments<Verb>) -> Result<Vec<u32>, ParseError>
     ensures { Gives vec_items (refused (channels rest.old.verb (left rest.old.words))) true result }
 {
-    let mut channels = Vec::new(heap);
-    loop {
+    let mut channels = vec![in heap; rest.next(Wanted::Channel)?]?;
+    while !rest.words.is_done() {
         channels.push(rest.next(Wanted::Channel)?)?;
-        if rest.words.is_done() {
-            return Ok(channels);
-        }
     }
+    Ok(channels)
 }
 
 pub(crate) fn command_of(heap: Global, rest: &mut Arguments<Verb>) -> Result<Command, ParseError>

@@ -1,4 +1,7 @@
 // How a command is to be written, and why a line is not understood.
+ghost use Rattle.std.specs.Prelude.{◌≡◌, ℕ, List, Some};
+ghost use Rattle.command.specs.Printed as printed;
+
 use crate::misread::Misread;
 use crate::recipes::{RecipeVerb, RecipeWanted};
 use crate::types::{Misreading, ParseError, Verb, Wanted};
@@ -7,11 +10,16 @@ use std::fmt;
 
 // What is wanted at a place, by the kind of word that can stand there.
 pub trait Kind {
-    fn kind(&self) -> &'static str;
+    ghost kind_words: { Self → List ℕ };
+
+    fn kind(&self) -> &'static str
+        ensures { result.now ≡ kind_words self.now };
 }
 
 // The form of a line with the command.
 impl fmt::Display for Verb {
+    ghost output = { λ verb. Some (printed.form verb) };
+
     fn fmt<W: fmt::Write>(&self, f: &mut fmt::Formatter<W>) -> fmt::Result {
         f.write_str(match self {
             Verb::Station => "station NUMBER",
@@ -29,6 +37,8 @@ impl fmt::Display for Verb {
 }
 
 impl fmt::Display for Wanted {
+    ghost output = { λ wanted. Some (printed.name wanted) };
+
     fn fmt<W: fmt::Write>(&self, f: &mut fmt::Formatter<W>) -> fmt::Result {
         f.write_str(match self {
             Wanted::StationNumber => "the station's number",
@@ -44,6 +54,8 @@ impl fmt::Display for Wanted {
 }
 
 impl Kind for Wanted {
+    ghost kind_words = { printed.kind };
+
     fn kind(&self) -> &'static str {
         match self {
             Wanted::Channel => "a whole number; channels are 1 to 64",
@@ -59,6 +71,8 @@ impl Kind for Wanted {
 
 // The form of a line with the command.
 impl fmt::Display for RecipeVerb {
+    ghost output = { λ verb. Some (printed.recipe_form verb) };
+
     fn fmt<W: fmt::Write>(&self, f: &mut fmt::Formatter<W>) -> fmt::Result {
         f.write_str(match self {
             RecipeVerb::Recipe => "recipe NAME",
@@ -70,6 +84,8 @@ impl fmt::Display for RecipeVerb {
 }
 
 impl fmt::Display for RecipeWanted {
+    ghost output = { λ wanted. Some (printed.recipe_name wanted) };
+
     fn fmt<W: fmt::Write>(&self, f: &mut fmt::Formatter<W>) -> fmt::Result {
         f.write_str(match self {
             RecipeWanted::Name => "the recipe's name",
@@ -81,6 +97,8 @@ impl fmt::Display for RecipeWanted {
 }
 
 impl Kind for RecipeWanted {
+    ghost kind_words = { printed.recipe_kind };
+
     fn kind(&self) -> &'static str {
         match self {
             RecipeWanted::Name => "a word of at most 32 bytes",
@@ -91,6 +109,8 @@ impl Kind for RecipeWanted {
 }
 
 impl<V: fmt::Display, W: fmt::Display + Kind> fmt::Display for Misread<V, W> {
+    ghost output = { printed.misread V.output W.Display.output W.Kind.kind_words };
+
     fn fmt<X: fmt::Write>(&self, f: &mut fmt::Formatter<X>) -> fmt::Result {
         match self {
             Misread::Missing(verb, wanted) => write!(
@@ -108,6 +128,8 @@ impl<V: fmt::Display, W: fmt::Display + Kind> fmt::Display for Misread<V, W> {
 }
 
 impl fmt::Display for Misreading {
+    ghost output = { printed.misreading };
+
     fn fmt<W: fmt::Write>(&self, f: &mut fmt::Formatter<W>) -> fmt::Result {
         match self {
             Misreading::UnknownCommand => write!(
@@ -120,6 +142,8 @@ impl fmt::Display for Misreading {
 }
 
 impl fmt::Display for ParseError {
+    ghost output = { printed.parse_error };
+
     fn fmt<W: fmt::Write>(&self, f: &mut fmt::Formatter<W>) -> fmt::Result {
         match self {
             ParseError::Misread(misreading) => write!(f, "{misreading}"),

@@ -1,12 +1,13 @@
 // What a command of a session is answered. The first words of an answer are fixed, so that other programs can read a record.
 ghost use Rattle.std.specs.Prelude.{◌≡◌};
-ghost use Rattle.session.specs.Answers.{set_answer};
+ghost use Rattle.session.specs.Answers.{answer_text, set_answer};
 
 use command::Misreading;
 use reading::{AtChannel, SettingRefusal};
 use std::fmt;
 use weighing::{TotalFault, WeighingFault};
 
+// Refusals and faults stand among the answers: each is one line of the record, and is printed as the others are.
 #[derive(Clone, Copy, PartialEq, Eq, Debug)]
 pub enum Answer {
     NewStation(u32),
@@ -36,6 +37,8 @@ impl From<Result<(), SettingRefusal>> for Answer {
 }
 
 impl fmt::Display for Answer {
+    ghost output = { answer_text };
+
     fn fmt<W: fmt::Write>(&self, f: &mut fmt::Formatter<W>) -> fmt::Result {
         match self {
             Answer::NewStation(number) => write!(f, "new station {number}"),

@@ -5,8 +5,8 @@ use Rattle.command.proofs.commands.channels.Given as goal
 
 abbrev pub invariant-loop-channels : goal.invariant-loop-channels
 invariant-loop-channels l = record {
-  read : SoFar (left l.initial.rest.words) (vec_items l.channels) (left l.rest.words);
-  verb : l.rest.verb ≡ l.initial.rest.verb;
+  read : SoFar (left l.fn.rest.words) (vec_items l.channels) (left l.rest.words);
+  verb : l.rest.verb ≡ l.fn.rest.verb;
 }
 
 abbrev pub decreases-loop-channels : goal.decreases-loop-channels
