@@ -4,24 +4,12 @@
 
 use anyhow::anyhow;
 use compiler::compile;
-use std::alloc::{AllocError, Global};
 use std::time::Instant;
 use std::{env, fs};
 
 const IMAGE_WORDS: usize = 4_096;
 
 const TABLE_WORDS: usize = 2_000;
-
-// The number of words of the last of so many compiles, or None where the text is refused.
-fn words(heap: Global, text: &[u8], times: u32) -> Result<Option<usize>, AllocError> {
-    let mut image = vec![in heap; 0u32; IMAGE_WORDS]?;
-    let mut table = vec![in heap; 0u32; TABLE_WORDS]?;
-    let mut last = None;
-    for _ in 0..times {
-        last = compile(text, &mut image, &mut table).ok();
-    }
-    Ok(last)
-}
 
 fn run(rt: &HostRuntime) -> anyhow::Result<()> {
     let heap = rt.alloc();
@@ -36,13 +24,17 @@ fn run(rt: &HostRuntime) -> anyhow::Result<()> {
         Some(word) => word.as_str().parse::<u32>()?,
         None => 0,
     };
-    match words(heap, &text, 1)? {
-        Some(count) => println!(rt; "{bytes} bytes: accepted, {count} words")?,
-        None => println!(rt; "{bytes} bytes: refused")?,
+    let mut image = vec![in heap; 0u32; IMAGE_WORDS]?;
+    let mut table = vec![in heap; 0u32; TABLE_WORDS]?;
+    match compile(&text, &mut image, &mut table) {
+        Ok(words) => println!(rt; "{bytes} bytes: accepted, {words} words")?,
+        Err(_) => println!(rt; "{bytes} bytes: refused")?,
     }
     if times > 0 {
         let start = Instant::now(rt)?;
-        let _ = words(heap, &text, times)?;
+        for _ in 0..times {
+            let _ = compile(&text, &mut image, &mut table);
+        }
         let each = start.elapsed(rt)?.as_micros() / u128::from(times);
         println!(rt; "{each} microseconds a compile")?;
     }

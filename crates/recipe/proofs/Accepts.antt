@@ -1,5 +1,5 @@
 -- A text is accepted exactly when it has a recipe.
-use Rattle.std.proofs.Common.{◌≡◌, ℕ, ◌≤◌, List, [], ◌∷◌, length, drop, sym, refl, ap, ◌∙◌, arith}
+use Rattle.std.proofs.Common.{◌≡◌, ℕ, ◌≤◌, List, [], ◌∷◌, length, drop, sym, refl, ap, ◌∙◌}
 use mathlib.Core.Option.{some}
 use Rattle.recipe.specs.Tokens.{Ident, Token, tokens}
 use Rattle.recipe.specs.Tokens.{all_tokens, Verdict, fine, wrong}
@@ -69,14 +69,14 @@ then_on v a next e = ap (λ u. then u next) e
 
 then_back : {A : Type 0} (v : Verdict A) (next : A → Answer) (ws : List ℕ) → then v next ≡ accepted ws → (a : A) × (v ≡ fine a) × (next a ≡ accepted ws)
 then_back (fine a) next ws e = (a, refl, e)
-then_back (wrong c p) next ws e = let z : ◌≡◌ {A = ℕ} 0 1 = cc in absurd (omega arith)
+then_back (wrong c p) next ws e = absurd cc
 
 pub no_fault : (fs : List Refusal) → first_fault fs ≡ fine tt → fs ≡ []
 no_fault [] e = refl
 no_fault (f ∷ fs) e =
     let k = found_stays f fs in
     let h : wrong (cause_number k.0.cause) k.0.place ≡ fine tt = sym (ap verdict_of k.1) ∙ e in
-    let z : ◌≡◌ {A = ℕ} 0 1 = cc in absurd (omega arith)
+    absurd cc
 
 pub forward : (text ws : List ℕ) → compiled text ≡ accepted ws → (r : Recipe) × RecipeOf text r × (ws ≡ image r)
 forward text ws e =

@@ -1,10 +1,10 @@
 -- The machine reads every text of the grammar that keeps the limits, and answers its tree. So a text has one such tree at most.
-use Rattle.std.proofs.Common.{◌≡◌, ℕ, ◌+◌, ◌<◌, ◌≤◌, cond, leb, List, [], ◌∷◌, refl, ◌∙◌, arith}
+use Rattle.std.proofs.Common.{◌≡◌, ℕ, ◌+◌, ◌≤◌, cond, leb, List, [], ◌∷◌, refl, ◌∙◌, arith}
 use mathlib.Core.Option.{Option, none, some}
 use Rattle.std.proofs.lemmas.Bool.{le-leb}
 use Rattle.recipe.specs.Tokens.{Op, In, Then, Else, Open, Close, Comma, Equals, Ident}
 use Rattle.recipe.specs.Tokens.{Token, Name, Operator, TheWord, Verdict, fine}
-use Rattle.recipe.specs.Grammar.{Expr, num, var, op, let_in, ifp, call, weigh, group, Arguments, one, more, Several, one_only, and_then, Declaration}
+use Rattle.recipe.specs.Grammar.{Expr, var, let_in, ifp, call, Arguments, one, more, Several, one_only, and_then, Declaration}
 use Rattle.recipe.specs.Grammar.{declare, Recipe, JoinsProducts, by_plus, by_minus, JoinsAtoms, by_times, by_over, IsExpr, a_let, an_ifp}
 use Rattle.recipe.specs.Grammar.{a_sum, IsSum, a_product, and_product, IsProduct, an_atom, and_atom, IsAtom, a_number, a_name, a_call, a_weigh}
 use Rattle.recipe.specs.Grammar.{bracketed, IsArguments, an_argument, and_argument, IsNames, a_parameter, and_parameter, declared}
@@ -15,6 +15,7 @@ use Rattle.recipe.specs.Machine.{want, operand, named, after_product, after_sum,
 use Rattle.recipe.specs.Limits.{size, depth, reading, unless}
 use Rattle.recipe.specs.Within.{nesting, nestings, constructs, constructs_of, all_constructs, FitDeclarations}
 use Rattle.recipe.specs.Within.{Within}
+use Rattle.recipe.proofs.Outputs.{constructs_more, constructs_of_grow}
 
 -- Limits that are kept.
 room : (n p : ℕ) (v : Verdict Recipe) → n ≤ 2000 → unless (cond (leb n 2000) 0 14) p v ≡ v
@@ -31,22 +32,6 @@ few s p v h = rw (le-leb s 8 h) refl
 
 fits : (s p : ℕ) (v : Verdict Recipe) → s ≤ 31 → unless (cond (leb s 31) 0 7) p v ≡ v
 fits s p v h = rw (le-leb s 31 h) refl
-
--- Constructs only grow.
-mutual
-  grows : (n : ℕ) (e : Expr) → n < constructs n e
-  grows n (num x) = omega arith
-  grows n (var x) = omega arith
-  grows n (weigh x) = omega arith
-  grows n (op o a b) = let g = grows n a in let h = grows (constructs n a + 1) b in omega arith
-  grows n (let_in x a b) = let g = grows (n + 1) a in let h = grows (constructs (n + 1) a) b in omega arith
-  grows n (ifp c a b) = let f = grows (n + 1) c in let g = grows (constructs (n + 1) c) a in let h = grows (constructs (constructs (n + 1) c) a) b in omega arith
-  grows n (call f es) = let h = grows_all (n + 1) es in omega arith
-  grows n (group e) = grows n e
-
-  grows_all : (n : ℕ) (es : Arguments) → n < constructs_of n es
-  grows_all n (one e) = grows n e
-  grows_all n (more es e) = let g = grows_all n es in let h = grows (constructs_of n es) e in omega arith
 
 pub data AfterExpr : List Token → Type 0 where
   at_end : AfterExpr []
@@ -168,13 +153,13 @@ module _ (len : ℕ) where
     pub reads_expr : {e : Expr} {ts rest : List Token} → IsExpr e ts rest → AfterExpr rest → (k : Context) (n : ℕ) → depth k + nesting e ≤ 32 → constructs n e ≤ 2000 →
         reading len (want k) n ts ≡ reading len (after_expr e k) (constructs n e) rest
     reads_expr (a_let {p = p} {q = q} {r = r} {x = x} {e₁ = e₁} {e₂ = e₂} {us = us} {rest = rest} v b) a k n d h =
-        let g₁ = grows (n + 1) e₁ in let g₂ = grows (constructs (n + 1) e₁) e₂ in
+        let g₁ = constructs_more (n + 1) e₁ in let g₂ = constructs_more (constructs (n + 1) e₁) e₂ in
         let m = constructs (n + 1) e₁ in
         let_deep (depth k) (n + 1) q _ (omega arith) (omega arith) ∙ (deep (depth k + 1) (n + 1) r _ (omega arith) (omega arith)
         ∙ (reads_expr v at_in (let_value x k) (n + 1) (omega arith) (omega arith) ∙ (deep (depth k + 1) m p _ (omega arith) (omega arith)
         ∙ (reads_expr b a (let_body x e₁ k) m (omega arith) h ∙ let_over x e₁ e₂ k (constructs m e₂) rest))))
     reads_expr (an_ifp {p = p} {q = q} {r = r} {e₀ = e₀} {e₁ = e₁} {e₂ = e₂} {rest = rest} t y z) a k n d h =
-        let g₀ = grows (n + 1) e₀ in let g₁ = grows (constructs (n + 1) e₀) e₁ in let g₂ = grows (constructs (constructs (n + 1) e₀) e₁) e₂ in
+        let g₀ = constructs_more (n + 1) e₀ in let g₁ = constructs_more (constructs (n + 1) e₀) e₁ in let g₂ = constructs_more (constructs (constructs (n + 1) e₀) e₁) e₂ in
         let m = constructs (n + 1) e₀ in let l = constructs m e₁ in
         deep (depth k + 1) (n + 1) r _ (omega arith) (omega arith) ∙ (reads_expr t at_then (if_test k) (n + 1) (omega arith) (omega arith)
         ∙ (deep (depth k + 1) m p _ (omega arith) (omega arith) ∙ (reads_expr y at_else (if_then e₀ k) m (omega arith) (omega arith)
@@ -185,7 +170,7 @@ module _ (len : ℕ) where
         reading len (operand nothing nothing k) n ts ≡ reading len (after_sum e k) (constructs n e) rest
     reads_sum (a_product {e = e} p) a k n d h = reads_product p (ended a) nothing k n d h ∙ product_over nothing e k (constructs n e) a
     reads_sum (and_product {p = q} {o = o} {a = x} {b = y} {us = us} s j p) a k n d h =
-        let g = grows (constructs n x + 1) y in
+        let g = constructs_more (constructs n x + 1) y in
         reads_sum s (joins j) k n (omega arith) (omega arith) ∙ (sum_goes_on x k (constructs n x) q us j (omega arith)
         ∙ (reads_product p (ended a) (left x o) k (constructs n x + 1) (omega arith) h ∙ product_over (left x o) y k (constructs (constructs n x + 1) y) a))
 
@@ -193,7 +178,7 @@ module _ (len : ℕ) where
         reading len (operand S nothing k) n ts ≡ reading len (after_product S e k) (constructs n e) rest
     reads_product (an_atom m) a S k n d h = reads_atom m a S nothing k n d h
     reads_product (and_atom {p = q} {o = o} {a = x} {b = y} {us = us} p j m) a S k n d h =
-        let g = grows (constructs n x + 1) y in
+        let g = constructs_more (constructs n x + 1) y in
         reads_product p (joins j) S k n (omega arith) (omega arith) ∙ (product_goes_on S x k (constructs n x) q us j (omega arith)
         ∙ reads_atom m a S (left x o) k (constructs n x + 1) (omega arith) h)
 
@@ -202,12 +187,12 @@ module _ (len : ℕ) where
     reads_atom (a_number {n = x}) a S P k n d h = room (n + 1) x.place _ h
     reads_atom (a_name {x = x}) a S P k n d h = room (n + 1) x.place _ h ∙ name_over S P x k (n + 1) a
     reads_atom (a_call {p = p} {q = q} {f = f} {es = es} {rest = rest} m) a S P k n d h =
-        let g = grows_all (n + 1) es in
+        let g = constructs_of_grow (n + 1) es in
         room (n + 1) f.place _ (omega arith) ∙ (deep (depth k + 1) (n + 1) q _ (omega arith) (omega arith)
         ∙ (reads_arguments m at_close S P f k (n + 1) (omega arith) h ∙ arguments_end S P f es k (constructs_of (n + 1) es) p rest h))
     reads_atom (a_weigh {p = p} {n = x}) a S P k n d h = room (n + 1) p _ h ∙ room (n + 1) x.place _ h
     reads_atom (bracketed {p = p} {q = q} {e = e} v) a S P k n d h =
-        let g = grows n e in
+        let g = constructs_more n e in
         deep (depth k + 1) n q _ (omega arith) (omega arith) ∙ (reads_expr v at_close (bracket S P k) n (omega arith) h ∙ room (constructs n e) p _ h)
 
     pub reads_arguments : {es : Arguments} {ts rest : List Token} → IsArguments es ts rest → AfterExpr rest → (S P : Left) (f : Ident) (k : Context) (n : ℕ) →
@@ -215,7 +200,7 @@ module _ (len : ℕ) where
         reading len (want (argument S P f none k)) n ts ≡ reading len (after_arguments S P f es k) (constructs_of n es) rest
     reads_arguments (an_argument e) a S P f k n d h = reads_expr e a (argument S P f none k) n d h
     reads_arguments (and_argument {p = p} {es = es} {e = e} {us = us} m v) a S P f k n d h =
-        let g = grows (constructs_of n es) e in
+        let g = constructs_more (constructs_of n es) e in
         reads_arguments m at_comma S P f k n (omega arith) (omega arith) ∙ (arguments_go_on S P f es k (constructs_of n es) p us (omega arith) (omega arith)
         ∙ reads_expr v a (argument S P f (some es) k) (constructs_of n es) (omega arith) h)
 
@@ -229,7 +214,7 @@ module _ (len : ℕ) where
       IsNames xs ts (TheWord p Close ∷ TheWord q Equals ∷ us) → IsExpr e us rest → AfterExpr rest → size xs ≤ 8 → nesting e ≤ 32 → constructs n e ≤ 2000 →
       reading len (head_open D f) n (TheWord r Open ∷ ts) ≡ reading len (after_expr e (in_body D f xs)) (constructs n e) rest
   reads_declaration {xs} {e} {q = q} r D f n m v a s d h =
-      let g = grows n e in after_names m D f n s ∙ (room n q _ (omega arith) ∙ reads_expr v a (in_body D f xs) n (omega arith) h)
+      let g = constructs_more n e in after_names m D f n s ∙ (room n q _ (omega arith) ∙ reads_expr v a (in_body D f xs) n (omega arith) h)
 
   -- the state after some declarations: the last one's body is over, and nothing was made of that yet
   abbrev after_declarations : Several Declaration → State
@@ -250,12 +235,12 @@ module _ (len : ℕ) where
       reading len first_head 0 ts ≡ reading len (after_declarations ds) (all_constructs ds) rest
   reads_declarations (a_declaration (declared {r = r} {f = f} m e)) a s t h = reads_declaration r none f 0 m e a t.0 t.1 h
   reads_declarations (and_declaration {ds = ds} l (declared {r = r} {f = f} {e = e} {ts = ts} m v)) a s t h =
-      let g = grows (all_constructs ds) e in
+      let g = constructs_more (all_constructs ds) e in
       reads_declarations l at_name (omega arith) t.0 (omega arith) ∙ (declarations_go_on ds f (all_constructs ds) (TheWord r Open ∷ ts) (omega arith)
       ∙ reads_declaration r (some ds) f (all_constructs ds) m v a t.1.0 t.1.1 h)
 
   pub complete : {r : Recipe} {ts : List Token} → IsRecipe r ts → Within r → reading len start 0 ts ≡ fine r
   complete (a_recipe {p = p} {ds = ds} {e = e} {us = us} l v) w =
-      let g = grows (all_constructs ds) e in
+      let g = constructs_more (all_constructs ds) e in
       reads_declarations l at_in w.0 w.1 (omega (arith, w.3)) ∙ (declarations_end ds (all_constructs ds) p us (omega (arith, w.3))
       ∙ reads_expr v at_end (in_main ds p) (all_constructs ds) (omega (arith, w.2)) w.3)

@@ -1,8 +1,8 @@
 -- The machine without its limits: it answers the tree of every text of the grammar, and gets stuck just where no text goes on.
-use Rattle.std.proofs.Common.{◌≡◌, ℕ, zero, suc, Bool, true, false, cond, leb, ◌⊎◌, List, [], ◌∷◌, ◌++◌, sym, refl, ap, ◌∙◌, subst, inl, inr, arith}
+use Rattle.std.proofs.Common.{◌≡◌, ℕ, Bool, true, false, cond, leb, ◌⊎◌, List, [], ◌∷◌, ◌++◌, sym, refl, ap, ◌∙◌, subst, inl, inr, arith}
 use mathlib.Core.Option.{Option, none, some}
 use Rattle.recipe.specs.Tokens.{place, Op, Let, In, Then, Else, Open, Close, Comma, Equals, Ident}
-use Rattle.recipe.specs.Tokens.{Literal, Token, Number, Name, Operator, TheWord, Verdict, wrong}
+use Rattle.recipe.specs.Tokens.{Literal, Token, Number, Name, Operator, TheWord, wrong}
 use Rattle.recipe.specs.Grammar.{Expr, num, var, let_in, ifp, call, weigh, group, Arguments, one, more, Several, one_only, and_then, Declaration}
 use Rattle.recipe.specs.Grammar.{declare, Recipe, recipe, JoinsProducts, by_plus, by_minus, JoinsAtoms, by_times, by_over, IsExpr, a_let, an_ifp}
 use Rattle.recipe.specs.Grammar.{a_sum, IsSum, a_product, and_product, IsProduct, an_atom, and_atom, IsAtom, a_number, a_name, a_call, a_weigh}
@@ -13,7 +13,7 @@ use Rattle.recipe.specs.Machine.{Left, nothing, left, apply, with_argument, with
 use Rattle.recipe.specs.Machine.{if_then, if_else, bracket, argument, State, stuck, start, first_head, head_open, head_name, head_next, head_equals}
 use Rattle.recipe.specs.Machine.{want, let_name, let_equals, operand, weighed, named, after_product, after_sum, after_expr}
 use Rattle.recipe.specs.Machine.{feed, run, finish}
-use Rattle.recipe.specs.Limits.{depth, reading, unless, judged, counted, at_the_end}
+use Rattle.recipe.specs.Limits.{depth, reading, judged, counted}
 use Rattle.recipe.proofs.Complete.{AfterExpr, at_end, at_name, at_in, at_then, at_else, at_close, at_comma, AfterProduct, AfterAtom, ended, joins}
 use Rattle.recipe.proofs.Sound as sound
 use Rattle.recipe.specs.Theorem.{first_place}
@@ -287,7 +287,7 @@ begun_runs us (vs, (r, p)) e =
     let a : answer start (us ++ vs) ≡ some r = answers p in
     let b : run start (us ++ vs) ≡ stuck = run-++ us start vs ∙ (ap (λ q. run q vs) e ∙ run_stuck vs) in
     let c : none ≡ some r = sym (ap finish b) ∙ a in
-    let z : ◌≡◌ {A = ℕ} 0 1 = cc in omega arith
+    cc
 
 pub run_begins : (us : List Token) → (run start us ≡ stuck → ⊥) → Begins us
 run_begins us h =
@@ -300,7 +300,7 @@ first_stuck us t h e = (run_begins us h, λ b. begun_runs (us ++ (t ∷ [])) b (
 
 pub cut_short : (ts : List Token) → (run start ts ≡ stuck → ⊥) → answer start ts ≡ none → RunsOut ts
 cut_short ts h e =
-    (run_begins ts h, λ r p. let a : answer start ts ≡ some r = answers p in let z : ◌≡◌ {A = ℕ} 0 1 = cc in omega arith)
+    (run_begins ts h, λ r p. let a : answer start ts ≡ some r = answers p in cc)
 
 -- Where the reading refuses for the grammar.
 abbrev Stops : State → List Token → Type 0
@@ -310,57 +310,42 @@ Stops q (t ∷ ts) = feed q t ≡ stuck
 abbrev Five : ℕ → Type 0
 Five c = c ≡ 5
 
-limit_7 : (b : Bool) (A : Type 0) → Five (cond b 0 7) → A
-limit_7 true A e = absurd (omega arith)
-limit_7 false A e = absurd (omega arith)
+-- A limit is another cause.
+limit : (b : Bool) (c : ℕ) (A : Type 0) → (Five c → ⊥) → Five (cond b 0 c) → A
+limit true c A h e = absurd (omega arith)
+limit false c A h e = absurd (h e)
 
-limit_8 : (b : Bool) (A : Type 0) → Five (cond b 0 8) → A
-limit_8 true A e = absurd (omega arith)
-limit_8 false A e = absurd (omega arith)
-
-limit_14 : (b : Bool) (A : Type 0) → Five (cond b 0 14) → A
-limit_14 true A e = absurd (omega arith)
-limit_14 false A e = absurd (omega arith)
-
-limit_6 : (b c : Bool) (A : Type 0) → Five (cond b (cond c 0 14) 6) → A
-limit_6 true c A e = limit_14 c A e
-limit_6 false c A e = absurd (omega arith)
+limits : (b c : Bool) (A : Type 0) → Five (cond b (cond c 0 14) 6) → A
+limits true c A e = limit c 14 A (λ h. omega arith) e
+limits false c A e = absurd (omega arith)
 
 only_stuck : (q : State) (n : ℕ) → Five (judged q n) → q ≡ stuck
 only_stuck stuck n e = refl
 only_stuck start n e = absurd (omega arith)
 only_stuck first_head n e = absurd (omega arith)
-only_stuck (head_open D f) n e = limit_7 _ _ e
+only_stuck (head_open D f) n e = limit _ 7 _ (λ h. omega arith) e
 only_stuck (head_name D f xs) n e = absurd (omega arith)
-only_stuck (head_next D f xs) n e = limit_8 _ _ e
+only_stuck (head_next D f xs) n e = limit _ 8 _ (λ h. omega arith) e
 only_stuck (head_equals D f xs) n e = absurd (omega arith)
-only_stuck (want k) n e = limit_6 (leb (depth k) 32) (leb n 2000) _ e
-only_stuck (let_name k) n e = limit_6 (leb (depth k) 31) (leb n 2000) _ e
+only_stuck (want k) n e = limits (leb (depth k) 32) (leb n 2000) _ e
+only_stuck (let_name k) n e = limits (leb (depth k) 31) (leb n 2000) _ e
 only_stuck (let_equals x k) n e = absurd (omega arith)
-only_stuck (operand S P k) n e = limit_14 _ _ e
-only_stuck (weighed S P k) n e = limit_14 _ _ e
-only_stuck (named S P x k) n e = limit_14 _ _ e
-only_stuck (after_product S e₁ k) n e = limit_14 _ _ e
-only_stuck (after_sum e₁ k) n e = limit_14 _ _ e
-only_stuck (after_expr e₁ k) n e = limit_14 _ _ e
-
-unless_wrong : (c p p' : ℕ) (v : Verdict Recipe) → unless c p v ≡ wrong 5 p' → (Five c × (p' ≡ p)) ⊎ ((c ≡ 0) × (v ≡ wrong 5 p'))
-unless_wrong zero p p' v e = inr (refl, e)
-unless_wrong (suc c) p p' v e = inl (cc, cc)
-
-end_wrong : (len p : ℕ) (o : Option Recipe) → at_the_end len o ≡ wrong 5 p → (o ≡ none) × (p ≡ len)
-end_wrong len p none e = (refl, cc)
-end_wrong len p (some r) e = let z : ◌≡◌ {A = ℕ} 0 1 = cc in absurd (omega arith)
+only_stuck (operand S P k) n e = limit _ 14 _ (λ h. omega arith) e
+only_stuck (weighed S P k) n e = limit _ 14 _ (λ h. omega arith) e
+only_stuck (named S P x k) n e = limit _ 14 _ (λ h. omega arith) e
+only_stuck (after_product S e₁ k) n e = limit _ 14 _ (λ h. omega arith) e
+only_stuck (after_sum e₁ k) n e = limit _ 14 _ (λ h. omega arith) e
+only_stuck (after_expr e₁ k) n e = limit _ 14 _ (λ h. omega arith) e
 
 abbrev Refuses : ℕ → State → List Token → ℕ → Type 0
 Refuses len q ts p = (us : List Token) × ((rest : List Token) × (ts ≡ us ++ rest) × (run q us ≡ stuck → ⊥) × Stops (run q us) rest × (p ≡ first_place len rest))
 
 refuses : (len : ℕ) (ts : List Token) (q : State) (n p : ℕ) → (q ≡ stuck → ⊥) → reading len q n ts ≡ wrong 5 p → Refuses len q ts p
-refuses len [] q n p h e = let u = end_wrong len p (finish q) e in ([], ([], refl, h, u.0, u.1))
+refuses len [] q n p h e = let u = sound.end_wrong len 5 p (finish q) e in ([], ([], refl, h, u.0, u.2))
 refuses len (t ∷ ts) q n p h e =
-    elim (unless_wrong (judged (feed q t) (counted q t n)) (place t) p _ e) [
-      | inl u ↦ ([], (t ∷ ts, refl, h, only_stuck (feed q t) (counted q t n) u.0, u.1))
-      | inr u ↦ let r = refuses len ts (feed q t) (counted q t n) p
+    elim (sound.unless_wrong (judged (feed q t) (counted q t n)) (place t) 5 p _ e) [
+      | inr u ↦ ([], (t ∷ ts, refl, h, only_stuck (feed q t) (counted q t n) u.0, u.1))
+      | inl u ↦ let r = refuses len ts (feed q t) (counted q t n) p
           (λ s. let z : 5 ≡ judged (feed q t) (counted q t n) = sym (ap (λ s. judged s (counted q t n)) s) in let w = u.0 in omega arith) u.1 in
           (t ∷ r.0, (r.1.0, ap (λ l. t ∷ l) r.1.1, r.1.2, r.1.3, r.1.4))
     ]
@@ -371,5 +356,5 @@ at_rest us (t ∷ vs) h e = at_token us (first_stuck us t h e)
 
 pub refused_there : (len : ℕ) (ts : List Token) (p : ℕ) → reading len start 0 ts ≡ wrong 5 p → (rest : List Token) × RefusedAt ts rest × (p ≡ first_place len rest)
 refused_there len ts p e =
-    let r = refuses len ts start 0 p (λ s. let z : ◌≡◌ {A = ℕ} 0 1 = cc in omega arith) e in
+    let r = refuses len ts start 0 p (λ s. cc) e in
     (r.1.0, subst (λ l. RefusedAt l r.1.0) (sym r.1.1) (at_rest r.0 r.1.0 r.1.2 r.1.3), r.1.4)

@@ -1,19 +1,19 @@
 -- A reading that is fine has kept the limits.
-use Rattle.std.proofs.Common.{◌≡◌, ℕ, zero, suc, ◌+◌, ◌≤◌, Bool, true, false, cond, leb, List, [], ◌∷◌, sym, refl, ap, ◌∙◌, subst, arith}
+use Rattle.std.proofs.Common.{◌≡◌, ℕ, suc, ◌+◌, ◌≤◌, Bool, true, false, cond, leb, List, [], ◌∷◌, sym, refl, ap, ◌∙◌, subst, arith}
 use mathlib.Core.Option.{Option, none, some}
 use Rattle.std.proofs.lemmas.Bool.{leb-true}
 use Rattle.recipe.specs.Tokens.{Op, Plus, Minus, Times, Over, Let, In, Ifp, Then, Else, Weigh, Open, Close, Comma, Equals, Ident}
-use Rattle.recipe.specs.Tokens.{Token, Number, Name, Operator, TheWord, Bad, place, Verdict, fine}
+use Rattle.recipe.specs.Tokens.{Token, Number, Name, Operator, TheWord, Bad, place, fine}
 use Rattle.recipe.specs.Grammar.{Expr, num, var, let_in, ifp, call, weigh, group, Arguments, Several, Declaration}
 use Rattle.recipe.specs.Grammar.{declare, Recipe}
 use Rattle.recipe.specs.Machine.{Left, nothing, left, apply, with_argument, with_one, Context, in_body, in_main, let_value, let_body, if_test}
 use Rattle.recipe.specs.Machine.{if_then, if_else, bracket, argument, State, stuck, start, first_head, head_open, head_name, head_next, head_equals}
 use Rattle.recipe.specs.Machine.{want, let_name, let_equals, operand, weighed, named, after_product, after_sum, after_expr}
 use Rattle.recipe.specs.Machine.{expr_on, sum_on, product_on, operand_on, feed, expr_end, finish}
-use Rattle.recipe.specs.Limits.{size, size_or_none, depth, reading, unless, judged, counted, with_operand, with_operator, at_the_end}
+use Rattle.recipe.specs.Limits.{size, size_or_none, depth, reading, judged, counted, with_operand, with_operator}
 use Rattle.recipe.specs.Within.{nesting, nestings, constructs, constructs_of, all_constructs, FitDeclarations}
 use Rattle.recipe.specs.Within.{Within}
-use Rattle.recipe.proofs.Sound.{by_word, by_name, by_in}
+use Rattle.recipe.proofs.Sound.{by_word, by_name, by_in, unless_fine, end_fine}
 
 -- The constructs that a context, left parts and declarations come to.
 abbrev with_left : Left → ℕ → ℕ
@@ -97,35 +97,24 @@ Keeps (after_expr e k) n = After e k n
 abbrev pub Zero : ℕ → Type 0
 Zero c = c ≡ 0
 
+passed : (b : Bool) (m c : ℕ) → Zero (cond b m (suc c)) → b ≡ true
+passed true m c e = refl
+passed false m c e = absurd (omega arith)
+
 few : (n : ℕ) → Zero (cond (leb n 2000) 0 14) → n ≤ 2000
-few n e = by (leb n 2000) refl e where
-  by : (b : Bool) → leb n 2000 ≡ b → Zero (cond b 0 14) → n ≤ 2000
-  by true h e = leb-true n 2000 h
-  by false h e = absurd (omega arith)
+few n e = leb-true n 2000 (passed (leb n 2000) 0 13 e)
 
 shallow : (d n : ℕ) → Zero (cond (leb d 32) (cond (leb n 2000) 0 14) 6) → d ≤ 32
-shallow d n e = by (leb d 32) refl e where
-  by : (b : Bool) → leb d 32 ≡ b → Zero (cond b (cond (leb n 2000) 0 14) 6) → d ≤ 32
-  by true h e = leb-true d 32 h
-  by false h e = absurd (omega arith)
+shallow d n e = leb-true d 32 (passed (leb d 32) _ 5 e)
 
 let_shallow : (d n : ℕ) → Zero (cond (leb d 31) (cond (leb n 2000) 0 14) 6) → d + 1 ≤ 32
-let_shallow d n e = by (leb d 31) refl e where
-  by : (b : Bool) → leb d 31 ≡ b → Zero (cond b (cond (leb n 2000) 0 14) 6) → d + 1 ≤ 32
-  by true h e = let g = leb-true d 31 h in omega arith
-  by false h e = absurd (omega arith)
+let_shallow d n e = let g = leb-true d 31 (passed (leb d 31) _ 5 e) in omega arith
 
 small : (s : ℕ) → Zero (cond (leb s 31) 0 7) → s ≤ 31
-small s e = by (leb s 31) refl e where
-  by : (b : Bool) → leb s 31 ≡ b → Zero (cond b 0 7) → s ≤ 31
-  by true h e = leb-true s 31 h
-  by false h e = absurd (omega arith)
+small s e = leb-true s 31 (passed (leb s 31) 0 6 e)
 
 eight : (s : ℕ) → Zero (cond (leb s 8) 0 8) → s ≤ 8
-eight s e = by (leb s 8) refl e where
-  by : (b : Bool) → leb s 8 ≡ b → Zero (cond b 0 8) → s ≤ 8
-  by true h e = leb-true s 8 h
-  by false h e = absurd (omega arith)
+eight s e = leb-true s 8 (passed (leb s 8) 0 7 e)
 
 apply_nesting : (d : ℕ) (P : Left) (e : Expr) → FitLeft d P → d + nesting e ≤ 32 → d + nesting (apply P e) ≤ 32
 apply_nesting d nothing e f h = h
@@ -312,14 +301,6 @@ ends (named S P x k) n a = product_ends S (apply P (var x)) k n (leaf S P (var x
 ends (after_product S e k) n a = product_ends S e k n a
 ends (after_sum e k) n a = expr_ends e k n a
 ends (after_expr e k) n a = expr_ends e k n a
-
-pub unless_fine : (c p : ℕ) (v : Verdict Recipe) (r : Recipe) → unless c p v ≡ fine r → Zero c × (v ≡ fine r)
-unless_fine zero p v r e = (refl, e)
-unless_fine (suc c) p v r e = let z : ◌≡◌ {A = ℕ} 0 1 = cc in absurd (omega arith)
-
-end_fine : (len : ℕ) (o : Option Recipe) (r : Recipe) → at_the_end len o ≡ fine r → o ≡ some r
-end_fine len none r e = let z : ◌≡◌ {A = ℕ} 0 1 = cc in absurd (omega arith)
-end_fine len (some s) r e = cc
 
 keeps : (len : ℕ) (ts : List Token) (q : State) (n : ℕ) (r : Recipe) → Keeps q n → reading len q n ts ≡ fine r → Within r
 keeps len [] q n r a e = subst Right (end_fine len (finish q) r e) (ends q n a)

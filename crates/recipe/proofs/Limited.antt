@@ -1,23 +1,13 @@
 -- Where the reading refuses for a limit.
-use Rattle.std.proofs.Common.{◌≡◌, ℕ, zero, suc, ◌⊎◌, List, [], ◌∷◌, ◌++◌, sym, refl, ap, ◌∙◌, inl, inr, arith}
-use mathlib.Core.Option.{Option, none, some}
-use Rattle.recipe.specs.Tokens.{Token, place, Verdict, fine, wrong}
+use Rattle.std.proofs.Common.{◌≡◌, ℕ, List, [], ◌∷◌, ◌++◌, sym, refl, ap, ◌∙◌, inl, inr}
+use Rattle.recipe.specs.Tokens.{Token, place, fine, wrong}
 use Rattle.recipe.specs.Grammar.{Recipe}
 use Rattle.recipe.specs.Machine.{State, stuck, start, feed, run, finish}
-use Rattle.recipe.specs.Limits.{reading, unless, judged, counted, at_the_end}
+use Rattle.recipe.specs.Limits.{reading, judged, counted}
 use Rattle.recipe.specs.Theorem.{LimitedAt}
 use Rattle.recipe.proofs.Complete.{complete}
 use Rattle.recipe.proofs.Exact.{run-++, run_begins}
-use Rattle.recipe.proofs.Kept.{unless_fine}
-
-pub end_wrong : (len c p : ℕ) (o : Option Recipe) → at_the_end len o ≡ wrong c p → c ≡ 5
-end_wrong len c p none e = cc
-end_wrong len c p (some r) e = let z : ◌≡◌ {A = ℕ} 0 1 = cc in absurd (omega arith)
-
-pub unless_wrong : (j at c p : ℕ) (v : Verdict Recipe) → unless j at v ≡ wrong c p →
-    ((j ≡ 0) × (v ≡ wrong c p)) ⊎ ((j ≡ c) × (p ≡ at) × (j ≡ 0 → ⊥))
-unless_wrong zero at c p v e = inl (refl, e)
-unless_wrong (suc j) at c p v e = inr (cc, cc, λ z. omega arith)
+use Rattle.recipe.proofs.Sound.{unless_fine, unless_wrong, end_wrong}
 
 -- The reading is refused at the token t after the tokens us, whatever follows, and the machine is not stuck there.
 record Stopped (len : ℕ) (q : State) (n : ℕ) (ts : List Token) (p : ℕ) : Type 0 where
@@ -30,7 +20,7 @@ record Stopped (len : ℕ) (q : State) (n : ℕ) (ts : List Token) (p : ℕ) : T
   over : (rest : List Token) (r : Recipe) → reading len q n (us ++ (t ∷ rest)) ≡ fine r → ⊥
 
 stopped : (len : ℕ) (ts : List Token) (q : State) (n c p : ℕ) → reading len q n ts ≡ wrong c p → (c ≡ 5 → ⊥) → Stopped len q n ts p
-stopped len [] q n c p e h = absurd (h (end_wrong len c p (finish q) e))
+stopped len [] q n c p e h = absurd (h (end_wrong len c p (finish q) e).1)
 stopped len (t ∷ ts) q n c p e h =
     let j = judged (feed q t) (counted q t n) in
     elim (unless_wrong j (place t) c p _ e) [

@@ -19,18 +19,18 @@ roomy text i t a b c = rw (le-ltb 60000 (length text) a, le-ltb i 4096 b, le-ltb
 
 said_ok : (r : Result ℕ Refusal) (n : ℕ) → said r ≡ fine n → r ≡ Ok n
 said_ok (Ok m) n e = cc
-said_ok (Err d) n e = let z : ◌≡◌ {A = ℕ} 0 1 = cc in absurd (omega arith)
+said_ok (Err d) n e = absurd cc
 
 answered_ok : (a : Answer) (n : ℕ) → fine n ≡ answered a → (ws : List ℕ) × (a ≡ accepted ws) × (n ≡ length ws)
 answered_ok (accepted ws) n e = (ws, refl, cc)
-answered_ok (refused c p) n e = let z : ◌≡◌ {A = ℕ} 0 1 = cc in absurd (omega arith)
+answered_ok (refused c p) n e = absurd cc
 
 answered_refused : (a : Answer) (c p : ℕ) → wrong c p ≡ answered a → a ≡ refused c p
-answered_refused (accepted ws) c p e = let z : ◌≡◌ {A = ℕ} 0 1 = cc in absurd (omega arith)
+answered_refused (accepted ws) c p e = absurd cc
 answered_refused (refused d q) c p e = let h : c ≡ d = cc in let k : p ≡ q = cc in cc
 
 accepted_or : (b : Bool) (d q : ℕ) (a : Answer) (ws : List ℕ) → cond b (refused d q) a ≡ accepted ws → a ≡ accepted ws
-accepted_or true d q a ws e = let z : ◌≡◌ {A = ℕ} 0 1 = cc in absurd (omega arith)
+accepted_or true d q a ws e = absurd cc
 accepted_or false d q a ws e = e
 
 by_compiled : (text : List ℕ) (i t : ℕ) (ws : List ℕ) → compile_answer text i t ≡ accepted ws → compiled text ≡ accepted ws

@@ -109,6 +109,9 @@ mutual
   count_more (one e) = omega arith
   count_more (more es e) = omega arith
 
+pub constructs_of_grow : (n : ℕ) (es : Arguments) → n < constructs_of n es
+constructs_of_grow n es = let p = constructs_of_more n es in let k = count_more es in omega arith
+
 -- an expression has a word at least, and at most two to a construct
 mutual
   pub past_more : (at : ℕ) (e : Expr) → at < past at e

@@ -1,8 +1,8 @@
 -- What the machine answers is the tree of a text of the grammar.
-use Rattle.std.proofs.Common.{◌≡◌, ℕ, zero, suc, Bool, true, false, cond, T, eqb, List, [], ◌∷◌, sym, refl, ap, ◌∙◌, subst, arith, eqb→eq}
+use Rattle.std.proofs.Common.{◌≡◌, ℕ, zero, suc, Bool, true, false, cond, T, eqb, ◌⊎◌, List, [], ◌∷◌, sym, refl, ap, ◌∙◌, subst, inl, inr, arith, eqb→eq}
 use mathlib.Core.Option.{Option, none, some}
 use Rattle.recipe.specs.Tokens.{Op, Plus, Minus, Times, Over, Word, Let, In, Ifp, Then, Else, Weigh, Open, Close, Comma, Equals, Ident}
-use Rattle.recipe.specs.Tokens.{Token, Number, Name, Operator, TheWord, Bad, place, Verdict, fine}
+use Rattle.recipe.specs.Tokens.{Token, Number, Name, Operator, TheWord, Bad, place, Verdict, fine, wrong}
 use Rattle.recipe.specs.Grammar.{Expr, Arguments, Several, Declaration}
 use Rattle.recipe.specs.Grammar.{declare, Recipe, JoinsProducts, by_plus, by_minus, JoinsAtoms, by_times, by_over, IsExpr, a_let, an_ifp}
 use Rattle.recipe.specs.Grammar.{a_sum, IsSum, a_product, and_product, IsProduct, an_atom, and_atom, IsAtom, a_number, a_name, a_call, a_weigh}
@@ -283,18 +283,27 @@ right (t ∷ ts) r = right ts (step r)
 pub sound : {r : Recipe} (ts : List Token) → finish (run start ts) ≡ some r → IsRecipe r ts
 sound ts e = subst (Right ts) e (right ts r_start)
 
--- A reading that is fine has made no refusal on the way.
-unless_fine : (c p : ℕ) (v : Verdict Recipe) (r : Recipe) → unless c p v ≡ fine r → v ≡ fine r
-unless_fine zero p v r e = e
-unless_fine (suc c) p v r e = let z : ◌≡◌ {A = ℕ} 0 1 = cc in absurd (omega arith)
+-- A reading that is fine has made no refusal on the way, and one that is wrong made it here or comes to it.
+pub unless_fine : (c p : ℕ) (v : Verdict Recipe) (r : Recipe) → unless c p v ≡ fine r → (c ≡ 0) × (v ≡ fine r)
+unless_fine zero p v r e = (refl, e)
+unless_fine (suc c) p v r e = absurd cc
 
-end_fine : (len : ℕ) (o : Option Recipe) (r : Recipe) → at_the_end len o ≡ fine r → o ≡ some r
-end_fine len none r e = let z : ◌≡◌ {A = ℕ} 0 1 = cc in absurd (omega arith)
+pub unless_wrong : (j at c p : ℕ) (v : Verdict Recipe) → unless j at v ≡ wrong c p →
+    ((j ≡ 0) × (v ≡ wrong c p)) ⊎ ((j ≡ c) × (p ≡ at) × (j ≡ 0 → ⊥))
+unless_wrong zero at c p v e = inl (refl, e)
+unless_wrong (suc j) at c p v e = inr (cc, cc, λ z. omega arith)
+
+pub end_fine : (len : ℕ) (o : Option Recipe) (r : Recipe) → at_the_end len o ≡ fine r → o ≡ some r
+end_fine len none r e = absurd cc
 end_fine len (some s) r e = cc
+
+pub end_wrong : (len c p : ℕ) (o : Option Recipe) → at_the_end len o ≡ wrong c p → (o ≡ none) × (c ≡ 5) × (p ≡ len)
+end_wrong len c p none e = (refl, cc, cc)
+end_wrong len c p (some r) e = absurd cc
 
 fine_runs : (len : ℕ) (ts : List Token) (q : State) (n : ℕ) (r : Recipe) → reading len q n ts ≡ fine r → finish (run q ts) ≡ some r
 fine_runs len [] q n r e = end_fine len (finish q) r e
-fine_runs len (t ∷ ts) q n r e = fine_runs len ts (feed q t) (counted q t n) r (unless_fine (judged (feed q t) (counted q t n)) (place t) _ r e)
+fine_runs len (t ∷ ts) q n r e = fine_runs len ts (feed q t) (counted q t n) r (unless_fine (judged (feed q t) (counted q t n)) (place t) _ r e).1
 
 pub derives : (len : ℕ) (ts : List Token) (r : Recipe) → reading len start 0 ts ≡ fine r → IsRecipe r ts
 derives len ts r e = sound ts (fine_runs len ts start 0 r e)

@@ -15,7 +15,7 @@ use Rattle.recipe.specs.Names.{before, sooner, earliest, first_fault}
 use Rattle.recipe.specs.Frames.{need, frames, recipe_frames}
 use Rattle.recipe.specs.Image.{image}
 use Rattle.recipe.specs.Compiled.{Answer, accepted, refused, then, understood, compiled, compile_answer}
-use Rattle.recipe.proofs.Limited.{end_wrong, unless_wrong}
+use Rattle.recipe.proofs.Sound.{end_wrong, unless_wrong}
 
 either : {A : Type 0} (P : A → Type 0) (b : Bool) {x y : A} → P x → P y → P (cond b x y)
 either P true p q = p
@@ -77,7 +77,7 @@ of_scan r p [] = of_run r
 of_scan r p (c ∷ cs) = lexical-++ (made r p c) (scan (after r p c) (p + 1) cs) (of_byte r p c) (of_scan (after r p c) (p + 1) cs)
 
 tokens_cause : (ts : List Token) (c p : ℕ) → AllLexical ts → all_tokens ts ≡ wrong c p → (2 ≤ c) × (c ≤ 4)
-tokens_cause [] c p no_more e = let z : ◌≡◌ {A = ℕ} 0 1 = cc in absurd (omega arith)
+tokens_cause [] c p no_more e = absurd cc
 tokens_cause (Number n ∷ ts) c p (one_more h a) e = tokens_cause ts c p a e
 tokens_cause (Name x ∷ ts) c p (one_more h a) e = tokens_cause ts c p a e
 tokens_cause (Operator q o ∷ ts) c p (one_more h a) e = tokens_cause ts c p a e
@@ -146,7 +146,7 @@ found_names f [] h a = (f, refl, h)
 found_names f (g ∷ gs) h a = found_names (sooner f g) gs (either OfNames (before f g) h a.0) a.1
 
 names_cause : (fs : List Refusal) (c p : ℕ) → AllNames fs → first_fault fs ≡ wrong c p → (9 ≤ c) × (c ≤ 13)
-names_cause [] c p a e = let z : ◌≡◌ {A = ℕ} 0 1 = cc in absurd (omega arith)
+names_cause [] c p a e = absurd cc
 names_cause (f ∷ fs) c p a e =
     let l = found_names f fs a.0 a.1 in
     let k = l.1 in
@@ -159,7 +159,7 @@ frame_cause true v q c p k e = k e
 frame_cause false v q c p k e = cc
 
 no_frame : (c p : ℕ) → ◌≡◌ {A = Verdict Unit} (fine tt) (wrong c p) → c ≡ 12
-no_frame c p e = let z : ◌≡◌ {A = ℕ} 0 1 = cc in absurd (omega arith)
+no_frame c p e = absurd cc
 
 frames_cause : (ds : List Declaration) (q : ℕ) (e : Expr) (c p : ℕ) → frames ds q e ≡ wrong c p → c ≡ 12
 frames_cause [] q e c p h = frame_cause (leb (need e) 32) (fine tt) q c p (no_frame c p) h
@@ -228,7 +228,7 @@ then_refused (fine a) next c p e = inr (a, refl, e)
 then_refused (wrong d q) next c p e = let h : d ≡ c = cc in let k : q ≡ p = cc in inl (cc)
 
 never_refused : (ws : List ℕ) (c p : ℕ) → accepted ws ≡ refused c p → ⊥
-never_refused ws c p e = let z : ◌≡◌ {A = ℕ} 0 1 = cc in omega arith
+never_refused ws c p e = cc
 
 of_frames : (r : Recipe) (c p : ℕ) → then (recipe_frames r) (λ _. accepted (image r)) ≡ refused c p → Reads c → ⊥
 of_frames r c p e k =

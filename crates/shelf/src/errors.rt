@@ -21,6 +21,11 @@ pub enum CompileError {
 }
 
 impl fmt::Display for NotKept {
+    ghost use Rattle.std.specs.Prelude.{Some};
+    ghost use Rattle.shelf.specs.Words.{not_kept_words};
+
+    ghost output = { λ reason. Some (not_kept_words reason) };
+
     fn fmt<W: fmt::Write>(&self, f: &mut fmt::Formatter<W>) -> fmt::Result {
         match self {
             NotKept::Refused { refusal, .. } => write!(f, "refused {refusal}"),

@@ -137,11 +137,7 @@ impl Session {
     }
 
     // A line while no text is being written.
-    fn hear<'a>(
-        &mut self,
-        heap: Global,
-        line: &'a [u8],
-    ) -> Result<Option<Reply<'a>>, AllocError>
+    fn hear<'a>(&mut self, heap: Global, line: &'a [u8]) -> Result<Option<Reply<'a>>, AllocError>
         ensures { Hears line.now (sitting_of self.old) result (sitting_of self.new) }
     {
         match parse_recipe(line) {

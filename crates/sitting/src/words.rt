@@ -15,6 +15,10 @@ fn hexadecimal<W: fmt::Write>(words: &[u32], f: &mut fmt::Formatter<W>) -> fmt::
 
 // A file that is wanted has no words yet.
 impl fmt::Display for Reply<'_> {
+    ghost use Rattle.sitting.specs.Words.{reply_text};
+
+    ghost output = { reply_text };
+
     fn fmt<W: fmt::Write>(&self, f: &mut fmt::Formatter<W>) -> fmt::Result {
         match self {
             Reply::Bench(answer) => write!(f, "{answer}"),
