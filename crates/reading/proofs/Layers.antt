@@ -1,36 +1,25 @@
 -- What the layers keep of the answers below them, and what one setting changes.
-use Rattle.std.proofs.Common.{◌≡◌, ℕ, zero, suc, ◌<◌, ◌≤◌, Bool, true, false, cond, eqb, List, ◌∷◌, map, length, set, replicate, ℤ, nat_abs, Some, Ok, Err, sym, refl, ap, inl, inr, arith}
+use Rattle.std.proofs.Common.{◌≡◌, ℕ, ◌<◌, ◌≤◌, Bool, true, false, cond, eqb, List, length, set, ℤ, nat_abs, Some, Ok, Err, refl, inl, inr, arith}
 use Rattle.std.proofs.lemmas.Option.{gets}
 use Rattle.std.proofs.lemmas.Bool.Decides.{nat_tests}
 use Rattle.std.proofs.lemmas.Grind.{common_steps}
-use Rattle.std.proofs.lemmas.Bool.{cases_Bool, cases_eq, cond-false, cond-true, eq-eqb, ne_eqb}
-use Rattle.weight.specs.Limit.{in_limit, limit}
+use Rattle.std.proofs.lemmas.Bool.{cases_eq, eq-eqb, ne_eqb}
+use Rattle.weight.specs.Limit.{limit}
 use Rattle.reading.specs.Answers.{Reading, at_channel, place_of}
-use Rattle.reading.specs.Intervals.{interval_setting, lawful_interval}
-use Rattle.reading.specs.OfBoard.{board_answer, fitted_answer, record_answer, weight_or_motion}
+use Rattle.reading.specs.OfBoard.{board_answer, fitted_answer, record_answer}
 use Rattle.reading.specs.OfLayer.{Leaves, through}
-use Rattle.reading.specs.OfStep.{step_setting}
 use Rattle.reading.specs.OfTare.{tared, tared_answer}
 use Rattle.reading.specs.Settings.{with_answer}
 use Rattle.reading.specs.declared.board.Record.{Record}
-use Rattle.reading.specs.declared.fault.ReadingFault.TheVariants.{NotAtRest}
-use Rattle.reading.specs.declared.refusal.SettingRefusal.{SettingRefusal}
-use Rattle.reading.specs.declared.refusal.SettingRefusal.TheVariants.{BadInterval}
-
-pub map_replicate : {X Y : Type 0} (f : X → Y) (n : ℕ) (x : X) → map f (replicate n x) ≡ replicate n (f x)
-map_replicate f zero x = refl
-map_replicate f (suc n) x = ap (λ ys. f x ∷ ys) (map_replicate f n x)
 
 -- what leaves each weight within the limit as it is, leaves a lawful reading so
 pub through_leaves : (f : ℤ → Reading) (r : Reading) → Leaves f → ((z : ℤ) → r ≡ Ok z → nat_abs z ≤ limit) → through f r ≡ r
 through_leaves f (Ok z) h w = h z (w z refl)
 through_leaves f (Err e) h w = refl
 
-pub place_below : (channel i : ℕ) → place_of channel ≡ Some i → i < 64
-place_below channel i e = grind (arith, nat_tests)
-
 -- what is set for a channel stands there, and elsewhere all is as it was
-at_channel_set : {X : Type 0} (xs : List X) (channel k i : ℕ) (x : X) → place_of channel ≡ Some i → i < length xs → at_channel (set xs i x) k ≡ cond (eqb k channel) (Some x) (at_channel xs k)
+at_channel_set : {X : Type 0} (xs : List X) (channel k i : ℕ) (x : X) → place_of channel ≡ Some i → i < length xs
+    → at_channel (set xs i x) k ≡ cond (eqb k channel) (Some x) (at_channel xs k)
 at_channel_set xs channel k i x e h = grind (arith, gets, nat_tests, common_steps)
 
 cond_through : {X Y : Type 0} (f : X → Y) (b : Bool) (x y : X) → f (cond b x y) ≡ cond b (f x) (f y)
@@ -38,7 +27,8 @@ cond_through f true x y = refl
 cond_through f false x y = refl
 
 -- a tare that is set is the channel's, and no other channel's
-pub tares_set : (f : ℕ → Reading) (tares : List ℤ) (channel k i : ℕ) (x : ℤ) → place_of channel ≡ Some i → i < length tares → tared_answer f (set tares i x) k ≡ with_answer (tared_answer f tares) channel (tared x (f channel)) k
+pub tares_set : (f : ℕ → Reading) (tares : List ℤ) (channel k i : ℕ) (x : ℤ) → place_of channel ≡ Some i → i < length tares
+    → tared_answer f (set tares i x) k ≡ with_answer (tared_answer f tares) channel (tared x (f channel)) k
 tares_set f tares channel k i x e h =
     elim (cases_eq k channel) [
       | inl q ↦ rw (at_channel_set tares channel k i x e h, eq-eqb k channel q, q) refl
@@ -46,24 +36,7 @@ tares_set f tares channel k i x e h =
     ]
 
 -- a record that is written is the channel's, and no other channel's
-pub record_set : (records : List Record) (channel k i : ℕ) (given : Record) → place_of channel ≡ Some i → i < length records → board_answer (set records i given) k ≡ with_answer (board_answer records) channel (record_answer given) k
-record_set records channel k i given e h = rw (at_channel_set records channel k i given e h) (cond_through fitted_answer (eqb k channel) (Some given) (at_channel records k))
-
-pub within_limit : (given : Record) → in_limit given.grams ≡ true → record_answer given ≡ weight_or_motion given
-within_limit given h = ap (λ x. cond given.resting x (Err NotAtRest)) (cond-true _ _ _ h)
-
--- an interval that is none is refused
-pub interval_refused : (d : ℕ) (e : SettingRefusal) → Err e ≡ interval_setting d → Err e ≡ step_setting d
-interval_refused d e h =
-    elim (cases_Bool (lawful_interval d)) [
-      | inl t ↦ let q : ◌≡◌ {A = ℕ} 0 1 = cc (cond-true (lawful_interval d) (Ok d) (Err BadInterval) t) in absurd (omega arith)
-      | inr f ↦ let q : e ≡ BadInterval = cc (cond-false (lawful_interval d) (Ok d) (Err BadInterval) f) in rw q (sym (cond-false _ _ _ f))
-    ]
-
--- an interval that is one is taken
-pub interval_taken : (d z : ℕ) → Ok z ≡ interval_setting d → (z ≡ d) × (Ok tt ≡ step_setting d)
-interval_taken d z h =
-    elim (cases_Bool (lawful_interval d)) [
-      | inl t ↦ let q : z ≡ d = cc (cond-true (lawful_interval d) (Ok d) (Err BadInterval) t) in (q, sym (cond-true _ _ _ t))
-      | inr f ↦ let q : ◌≡◌ {A = ℕ} 0 1 = cc (cond-false (lawful_interval d) (Ok d) (Err BadInterval) f) in absurd (omega arith)
-    ]
+pub record_set : (records : List Record) (channel k i : ℕ) (given : Record) → place_of channel ≡ Some i → i < length records
+    → board_answer (set records i given) k ≡ with_answer (board_answer records) channel (record_answer given) k
+record_set records channel k i given e h =
+    rw (at_channel_set records channel k i given e h) (cond_through fitted_answer (eqb k channel) (Some given) (at_channel records k))

@@ -4,7 +4,6 @@
 mod answer;
 mod at_channel;
 mod board;
-mod drop;
 mod fault;
 mod interval;
 mod layer;
