@@ -70,16 +70,3 @@ module _ (xs : List ℕ) where
   all_read limit v some e d =
       ap (λ n. then_some (leb n limit) n) e ∙ (chosen (leb (decimal xs) limit) (decimal xs) ∙ sym (ap (λ t. cond (t && (all_digits xs && leb (decimal xs) limit)) (Some (decimal xs)) None) (le-leb 1 (length xs) (omega arith)) ∙
       ap (λ t. cond (t && leb (decimal xs) limit) (Some (decimal xs)) None) d))
-
-pub minus : (w : List ℕ) → 0 < length w → get_or w 0 0 ≡ 45 → below_zero_in (drop 1 w) ≡ grams_in w
-minus [] l e = absurd (omega arith)
-minus (b ∷ bs) l e = let P : ℕ → Type 0 = λ x. below_zero_in bs ≡ grams_in (x ∷ bs) in subst P (sym e) refl
-
-pub bounded : (limit : ℕ) (w : List ℕ) (n : ℕ) → Some n ≡ value_in limit w → n ≤ limit
-bounded limit w n e =
-    let p = some_if (leb 1 (length w) && (all_digits w && leb (decimal w) limit)) n (decimal w) e in
-    let q = and_parts (all_digits w) _ (and_parts (leb 1 (length w)) _ p.0).1 in
-    omega (arith, leb-true (decimal w) limit q.1)
-
-pub number_bounded : (w : List ℕ) → Bounded w
-number_bounded w n e = let h = bounded 4294967295 w n (sym e) in omega arith
