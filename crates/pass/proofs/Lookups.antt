@@ -1,11 +1,10 @@
 -- What a name stands for.
-use Rattle.std.proofs.Common.{◌≡◌, ℕ, Bool, true, false, cond, ◌||◌, List, [], ◌∷◌, ◌++◌, length, map, take, is_some, Some, None, Option, sym, refl, ap, ◌∙◌}
+use Rattle.std.proofs.Common.{◌≡◌, ℕ, Bool, true, false, cond, ◌||◌, List, [], ◌∷◌, ◌++◌, map, is_some, Some, None, Option, sym, refl, ap, ◌∙◌}
 use mathlib.Core.Option as opt
 use Rattle.std.specs.List.{find}
 use Rattle.std.specs.Option.{option_map, option_to_list, MatchOption, IsSomeAnd}
 use Rattle.std.specs.Str.{bytes_eq}
 use Rattle.std.proofs.lemmas.List.{reverse-append}
-use Rattle.std.proofs.Math.Seq.{take-append_seam}
 use Rattle.arrayvec.specs.ArrayVec.{ArrayVec}
 use Rattle.recipe.specs.Tokens.{Ident}
 use Rattle.std.specs.Bool.{then_some}
@@ -89,15 +88,6 @@ inner_env functions {before = before} v x k e n =
     ap (λ (bs : List Bound). record { signatures = signed functions; entries = entered functions; in_scope = bs })
     (ap in_force (e ∙ ap (λ (w : ArrayVec Variable). w.items ++ (v ∷ [])) k) ∙ (in_force_more before.items v
     ∙ ap (λ (y : List ℕ). record { name = y; to = v.slot } ∷ in_force before.items) n))
-
--- a variable more, and no more
-pub put_back : {before outer inner after last : ArrayVec Variable} {n : ℕ} (v : Variable) → outer ≡ before → inner.items ≡ outer.items ++ (v ∷ []) → after ≡ inner →
-    n ≡ length outer.items → last.items ≡ take n after.items → last ≡ before
-put_back {outer = outer} {inner = inner} {after = after} {n = n} v k e i m b =
-    let kept : take n after.items ≡ outer.items =
-    ap (λ j. take j after.items) m ∙ (ap (λ (w : ArrayVec Variable). take (length outer.items) w.items) i
-    ∙ (ap (take (length outer.items)) e ∙ take-append_seam outer.items (v ∷ []))) in
-    ap (λ (xs : List Variable). record { items = xs }) (b ∙ kept) ∙ k
 
 -- the fault of a name that stands before
 again_noted : (names : List (List ℕ)) (x : Ident) (t : Bool) → among names x.name ≡ t → option_to_list (then_some t (record { cause = DeclaredTwice; place = x.place })) ≡ again names x

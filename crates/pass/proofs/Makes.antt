@@ -12,7 +12,7 @@ use Rattle.pass.specs.declared.output.Output.{Output}
 use Rattle.recipe.specs.Names.{faults, faults_of, arity_of, call_faults}
 use Rattle.recipe.specs.declared.cause.Refusal.{Refusal}
 use Rattle.pass.specs.Known.{Env, spelled}
-use Rattle.pass.specs.Outputs.{emitted, pushed, faulted, Made, MadeAll}
+use Rattle.pass.specs.Outputs.{emitted, pushed, faulted, MadeOf, Made, MadeAll}
 use Rattle.pass.proofs.Faults.{earliest-++, earliest_swap}
 use Rattle.pass.proofs.Lookups.{deeper}
 use Rattle.recipe.proofs.Outputs.{words_past, arguments_past, placed-++}
@@ -42,17 +42,11 @@ peak_more : (p h a n b p₁ p₂ : ℕ) → p₁ ≡ max p (h + a) → p₂ ≡ 
 peak_more p h a n b p₁ p₂ e f = omega arith
 
 -- other names for the same
-pub from : {v : Env} {h : ℕ} {o o₀ o₁ : Output} {m m₁ : List ℕ} {e : Expr} → o₀ ≡ o → Made v h o₀ m e o₁ m₁ → Made v h o m e o₁ m₁
-from {v = v} {h = h} {o₁ = o₁} {m = m} {m₁ = m₁} {e = e} a r = subst (λ (x : Output). Made v h x m e o₁ m₁) a r
+pub from : {Tree : Type 0} (Makes : MadeOf Tree) {v : Env} {h : ℕ} {o o₀ o₁ : Output} {m m₁ : List ℕ} {e : Tree} → o₀ ≡ o → Makes v h o₀ m e o₁ m₁ → Makes v h o m e o₁ m₁
+from Makes {v = v} {h = h} {o₁ = o₁} {m = m} {m₁ = m₁} {e = e} a r = subst (λ (x : Output). Makes v h x m e o₁ m₁) a r
 
-pub to : {v : Env} {h : ℕ} {o o₁ o₂ : Output} {m m₁ : List ℕ} {e : Expr} → o₂ ≡ o₁ → Made v h o m e o₁ m₁ → Made v h o m e o₂ m₁
-to {v = v} {h = h} {o = o} {m = m} {m₁ = m₁} {e = e} a r = subst (λ (x : Output). Made v h o m e x m₁) (sym a) r
-
-pub all_from : {v : Env} {h : ℕ} {o o₀ o₁ : Output} {m m₁ : List ℕ} {es : Arguments} → o₀ ≡ o → MadeAll v h o₀ m es o₁ m₁ → MadeAll v h o m es o₁ m₁
-all_from {v = v} {h = h} {o₁ = o₁} {m = m} {m₁ = m₁} {es = es} a r = subst (λ (x : Output). MadeAll v h x m es o₁ m₁) a r
-
-pub all_to : {v : Env} {h : ℕ} {o o₁ o₂ : Output} {m m₁ : List ℕ} {es : Arguments} → o₂ ≡ o₁ → MadeAll v h o m es o₁ m₁ → MadeAll v h o m es o₂ m₁
-all_to {v = v} {h = h} {o = o} {m = m} {m₁ = m₁} {es = es} a r = subst (λ (x : Output). MadeAll v h o m es x m₁) (sym a) r
+pub to : {Tree : Type 0} (Makes : MadeOf Tree) {v : Env} {h : ℕ} {o o₁ o₂ : Output} {m m₁ : List ℕ} {e : Tree} → o₂ ≡ o₁ → Makes v h o m e o₁ m₁ → Makes v h o m e o₂ m₁
+to Makes {v = v} {h = h} {o = o} {m = m} {m₁ = m₁} {e = e} a r = subst (λ (x : Output). Makes v h o m e x m₁) (sym a) r
 
 pub knowing : {v w : Env} {h : ℕ} {o o₁ : Output} {m m₁ : List ℕ} {e : Expr} → v ≡ w → Made v h o m e o₁ m₁ → Made w h o m e o₁ m₁
 knowing {h = h} {o = o} {o₁ = o₁} {m = m} {m₁ = m₁} {e = e} a r = subst (λ (x : Env). Made x h o m e o₁ m₁) a r

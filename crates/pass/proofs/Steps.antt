@@ -18,7 +18,7 @@ use Rattle.lexer.specs.declared.Kind.TheVariants.{Number as KNumber, Name as KNa
 use Rattle.recipe.specs.Theorem.{first_place}
 use Rattle.pass.specs.declared.chain.Chain.{Chain}
 use Rattle.pass.specs.declared.chain.Chain.TheVariants.{Sum, Product}
-use Rattle.pass.specs.Reads.{Missing, OtherWord, NoName, JoinsIn, GoesOn, Read, BadFrom, an_expr, an_atom, a_call, an_operand, a_chain, chain_so_far, arguments_so_far, from_expr, from_atom, from_call, from_operand, from_chain, begins, after_operand, after_operator, after_chain, after_arguments, NamesSoFar, ReadHead, BadHead, DeclarationsSoFar, after_declarations}
+use Rattle.pass.specs.Reads.{OtherWord, NoName, JoinsIn, GoesOn, Read, BadFrom, an_expr, an_atom, a_call, an_operand, a_chain, chain_so_far, arguments_so_far, from_expr, from_atom, from_call, from_operand, from_chain, begins, after_operand, after_operator, after_chain, after_arguments, NamesSoFar, ReadHead, BadHead, DeclarationsSoFar, after_declarations}
 
 -- Limits that are kept, and limits that are not.
 pub room : (n p : ℕ) (v : Verdict Recipe) → n ≤ 2000 → unless (cond (leb n 2000) 0 14) p v ≡ v
@@ -78,14 +78,6 @@ nameless text (KOperator o) p e h = tt
 nameless text (KWord v) p e h = tt
 nameless text (KBad c) p e h = tt
 nameless text KEnd p e h = tt
-
-pub missing : (text : List ℕ) (kind k : Kind) (p e : ℕ) → (k ≡ kind → ⊥) → Missing kind (then_from text k p e)
-missing text (KNumber n) k p e h = tt
-missing text KName k p e h = nameless text k p e h
-missing text (KOperator o) k p e h = tt
-missing text (KWord w) k p e h = other text w k p e h
-missing text (KBad c) k p e h = tt
-missing text KEnd k p e h = tt
 
 module _ (len : ℕ) where
   -- another number for the same count
@@ -249,10 +241,6 @@ module _ (len : ℕ) where
   unfoldable pub chain_first : (chain : Chain) {d n m : ℕ} {ts us : List Token} → Read (an_operand chain) len d n ts m us → Read (chain_so_far chain) len d n ts m us
   chain_first chain r = record { tree = r.tree; goes = first_goes chain r }
 
-  pub chain_first_bad : (chain : Chain) {d n c p : ℕ} {ts : List Token} → BadFrom (from_operand chain) len d n ts c p → BadFrom (from_chain chain) len d n ts c p
-  chain_first_bad Sum b = record { stops = λ S k e. b.stops nothing k e }
-  chain_first_bad Product b = record { stops = λ S k e. b.stops S nothing k e }
-
   unfoldable pub chain_more : (chain : Chain) {d n m m₁ m₂ p : ℕ} {ts us vs ws : List Token} {o : Op} → Read (chain_so_far chain) len d n ts m us →
       us ≡ Operator p o ∷ vs → JoinsIn chain o → m₁ ≡ m + 1 → m₁ ≤ 2000 → Read (an_operand chain) len d m₁ vs m₂ ws → Read (chain_so_far chain) len d n ts m₂ ws
   chain_more chain {o = o} s a j c h r = record {
@@ -404,15 +392,6 @@ module _ (len : ℕ) where
 
   pub many : (s p : ℕ) (v : Verdict Recipe) → 8 < s → unless (cond (leb s 8) 0 8) p v ≡ wrong 8 p
   many s p v h = rw (lt-leb s 8 h) refl
-
-  pub no_parameter : (D : Option (Several Declaration)) (f : Ident) (xs : Option (Several Ident)) (n : ℕ) (us : List Token) → NoName us →
-      reading len (head_name D f xs) n us ≡ wrong 5 (first_place len us)
-  no_parameter D f xs n [] o = refl
-  no_parameter D f xs n (Number y ∷ us) o = refl
-  no_parameter D f xs n (Name y ∷ us) o = absurd o
-  no_parameter D f xs n (Operator p y ∷ us) o = refl
-  no_parameter D f xs n (TheWord p v ∷ us) o = refl
-  no_parameter D f xs n (Bad p c ∷ us) o = refl
 
   unfoldable pub names_first : {n m m₁ p : ℕ} {ts us vs : List Token} (x : Ident) → ts ≡ TheWord p Open ∷ us → m ≡ n → us ≡ Name x ∷ vs → m₁ ≡ m → NamesSoFar len n ts 1 m₁ vs
   names_first {n = n} {vs = vs} x a c b i = record {
