@@ -58,7 +58,8 @@ after_names {text = text} {q = q} f s =
     after_reading text (tree s) s.reads ∙ (ap (λ v. then v (λ _. then (recipe_frames (tree s)) (λ _. accepted (image (tree s))))) (sym (names_judged f s))
     ∙ ap (λ v. then (verdict_of q.fault) (λ _. then v (λ _. accepted (image (tree s))))) (sym s.framed))
 
-named_on : {text m m₁ n m₂ : List ℕ} {p q : Pass} {b : ℕ} (f : Passed text [] b m p m₁) (s : Second text p n q m₂) → q.fault ≡ None → understood text ≡ then (frame_verdict q.over) (λ _. accepted (image (tree s)))
+named_on : {text m m₁ n m₂ : List ℕ} {p q : Pass} {b : ℕ} (f : Passed text [] b m p m₁) (s : Second text p n q m₂) → q.fault ≡ None →
+    understood text ≡ then (frame_verdict q.over) (λ _. accepted (image (tree s)))
 named_on {q = q} f s h =
     after_names f s ∙ ap (λ (o : Option Refusal). then (verdict_of o) (λ _. then (frame_verdict q.over) (λ _. accepted (image (tree s))))) h
 

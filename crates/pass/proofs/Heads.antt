@@ -1,5 +1,6 @@
 -- Parameters: their names, their slots, and those that stand twice.
 use Rattle.std.proofs.Common.{◌≡◌, ℕ, ◌+◌, max, Bool, true, false, ◌||◌, List, [], ◌∷◌, ◌++◌, length, set, Option, sym, refl, ap, ◌∙◌, append_assoc, append-nil, add-zero, arith, length-append}
+use Rattle.std.proofs.Math.Bool.{or_assoc, or_comm, or-false}
 use Rattle.std.specs.Str.{bytes_eq}
 use Rattle.recipe.specs.Tokens.{Ident}
 use Rattle.recipe.specs.Grammar.{Expr, num, var, op, let_in, ifp, call, weigh, group, Arguments, one, more, Several, one_only, and_then}
@@ -45,27 +46,14 @@ twice_more Γ n (y ∷ ys) x =
     ∙ sym (append_assoc (again (spelled Γ) y) (twice (y.name ∷ spelled Γ) ys) (again (spelled (slots (record { name = y.name; to = n } ∷ Γ) (n + 1) ys)) x))
 
 -- the order of the names in force tells nothing of what is among them
-or_swap : (a b c : Bool) → (a || (b || c)) ≡ (b || (a || c))
-or_swap true true c = refl
-or_swap true false c = refl
-or_swap false b c = refl
-
-or_assoc : (a b c : Bool) → ((a || b) || c) ≡ (a || (b || c))
-or_assoc true b c = refl
-or_assoc false b c = refl
-
-or_none : (a : Bool) → (a || false) ≡ a
-or_none true = refl
-or_none false = refl
-
 among_slots : (Γ : List Bound) (n : ℕ) (xs : List Ident) (y : List ℕ) → among (spelled (slots Γ n xs)) y ≡ (among (names_of xs) y || among (spelled Γ) y)
 among_slots Γ n [] y = refl
 among_slots Γ n (x ∷ xs) y =
     among_slots (record { name = x.name; to = n } ∷ Γ) (n + 1) xs y
-    ∙ (or_swap (among (names_of xs) y) (bytes_eq y x.name) (among (spelled Γ) y) ∙ sym (or_assoc (bytes_eq y x.name) (among (names_of xs) y) (among (spelled Γ) y)))
+    ∙ (sym (or_assoc (among (names_of xs) y) (bytes_eq y x.name) (among (spelled Γ) y)) ∙ ap (λ t. t || among (spelled Γ) y) (or_comm (among (names_of xs) y) (bytes_eq y x.name)))
 
 pub among_names : (n : ℕ) (xs : List Ident) (y : List ℕ) → among (spelled (slots [] n xs)) y ≡ among (names_of xs) y
-among_names n xs y = among_slots [] n xs y ∙ or_none (among (names_of xs) y)
+among_names n xs y = among_slots [] n xs y ∙ or-false (among (names_of xs) y)
 
 abbrev Alike : List (List ℕ) → List (List ℕ) → Type 0
 Alike Γ Δ = (y : List ℕ) → among Γ y ≡ among Δ y

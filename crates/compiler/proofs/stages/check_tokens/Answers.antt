@@ -3,9 +3,6 @@ use Rattle.recipe.specs.Tokens.{all_tokens}
 use Rattle.compiler.proofs.Calls.{on_from, takes_bytes}
 use Rattle.compiler.proofs.stages.check_tokens.Goals as goal
 
-pub loop-look-init : goal.loop-look-init
-loop-look-init c = (ap all_tokens c.next_token-look.ensures.reads, c.next_token-look.ensures.valid.1)
-
 pub loop-look-smaller : goal.loop-look-smaller
 loop-look-smaller c =
     let l = c.loop-look.look in
@@ -16,7 +13,6 @@ loop-look-smaller c =
 pub loop-look-preserved : goal.loop-look-preserved
 loop-look-preserved c =
     let l = c.loop-look.look in
-    let n = c.next_token-look-in-loop-look in (
-      c.loop-look.invariant.0 ∙ (on_from c.args.text.now l.kind l.start l.end c.in_default.not-Bad (λ e. absurd (search (e, c.ne.ensures, c.loop-look-test.true, rules))) ∙ ap all_tokens n.ensures.reads),
-      n.ensures.valid.1,
-    )
+    let n = c.next_token-look-in-loop-look in
+    let more = on_from c.args.text.now l.kind l.start l.end c.in_default.not-Bad (λ e. absurd (search (e, c.ne.ensures, c.loop-look-test.true, rules))) in
+    (c.loop-look.invariant.0 ∙ (more ∙ ap all_tokens n.ensures.reads), n.ensures.valid.1)
