@@ -9,8 +9,11 @@ use Rattle.recipe.specs.declared.Op.TheVariants.{Plus, Minus, Times, Over}
 use Rattle.recipe.specs.declared.Word.{Word}
 use Rattle.recipe.specs.declared.Word.TheVariants.{Let, In, Ifp, Then, Else, Weigh, Open, Close, Comma, Equals}
 use Rattle.recipe.specs.Tokens.{Ident, Literal, Token, Number, Name, Operator, TheWord, Bad, Verdict, fine, wrong}
-use Rattle.recipe.specs.Grammar.{Expr, num, var, op, let_in, ifp, call, weigh, group, Arguments, one, more, Several, one_only, and_then, Declaration, declare, Recipe, recipe, by_plus, by_minus, by_times, by_over}
-use Rattle.recipe.specs.Machine.{code, Left, nothing, left, apply, Context, in_body, in_main, let_value, let_body, if_test, if_then, if_else, bracket, argument, State, start, first_head, head_open, head_name, head_next, head_equals, want, let_name, let_equals, operand, weighed, named, after_product, after_sum, after_expr}
+use Rattle.recipe.specs.Grammar.{Expr, num, var, op, let_in, ifp, call, weigh, group, Arguments, one, more, Several, one_only, and_then, Declaration, declare}
+use Rattle.recipe.specs.Grammar.{Recipe, recipe, by_plus, by_minus, by_times, by_over}
+use Rattle.recipe.specs.Machine.{code, Left, nothing, left, apply, Context, in_body, in_main, let_value, let_body, if_test, if_then, if_else, bracket, argument}
+use Rattle.recipe.specs.Machine.{State, start, first_head, head_open, head_name, head_next, head_equals, want, let_name, let_equals, operand, weighed, named}
+use Rattle.recipe.specs.Machine.{after_product, after_sum, after_expr}
 use Rattle.recipe.specs.Limits.{depth, unless, reading, size}
 use Rattle.lexer.specs.Lexed.{token_of, then_from}
 use Rattle.lexer.specs.declared.Kind.{Kind}
@@ -18,7 +21,9 @@ use Rattle.lexer.specs.declared.Kind.TheVariants.{Number as KNumber, Name as KNa
 use Rattle.recipe.specs.Theorem.{first_place}
 use Rattle.pass.specs.declared.chain.Chain.{Chain}
 use Rattle.pass.specs.declared.chain.Chain.TheVariants.{Sum, Product}
-use Rattle.pass.specs.Reads.{OtherWord, NoName, JoinsIn, GoesOn, Read, BadFrom, an_expr, an_atom, a_call, an_operand, a_chain, chain_so_far, arguments_so_far, from_expr, from_atom, from_call, from_operand, from_chain, begins, after_operand, after_operator, after_chain, after_arguments, NamesSoFar, ReadHead, BadHead, DeclarationsSoFar, after_declarations}
+use Rattle.pass.specs.Reads.{OtherWord, NoName, JoinsIn, GoesOn, Read, BadFrom, an_expr, an_atom, a_call, an_operand, a_chain, chain_so_far, arguments_so_far}
+use Rattle.pass.specs.Reads.{from_expr, from_atom, from_call, from_operand, from_chain, begins, after_operand, after_operator, after_chain, after_arguments}
+use Rattle.pass.specs.Reads.{NamesSoFar, ReadHead, BadHead, DeclarationsSoFar, after_declarations}
 
 -- Limits that are kept, and limits that are not.
 pub room : (n p : ℕ) (v : Verdict Recipe) → n ≤ 2000 → unless (cond (leb n 2000) 0 14) p v ≡ v

@@ -4,14 +4,14 @@ use Rattle.std.proofs.Math.Option.{none, some}
 use Rattle.std.proofs.Math.Option as opt
 use Rattle.recipe.specs.declared.Op.{Op}
 use Rattle.recipe.specs.declared.Word.{Word as AWord}
-use Rattle.recipe.specs.Tokens.{Ident, Token, Number as ANumber, Name as AName, Operator as AnOperator, TheWord, Bad as ABad, Verdict, fine, wrong, tokens}
+use Rattle.recipe.specs.Tokens.{Ident, Token, Name as AName, TheWord, Verdict, fine, wrong, tokens}
 use Rattle.recipe.specs.Grammar.{Expr, call, Arguments, one, more, JoinsProducts, JoinsAtoms, Several, one_only, and_then, Declaration, declare, recipe}
 use Rattle.recipe.specs.Machine.{code, Left, nothing, left, apply, Context, argument, in_body, State, start, head_open, head_next, want, operand, after_product, after_sum, after_expr}
 use Rattle.recipe.specs.Theorem.{first_place}
 use Rattle.recipe.specs.Limits.{depth, reading, size}
 use Rattle.lexer.specs.Lexed.{rest, Valid, Small, token_of}
 use Rattle.lexer.specs.declared.Kind.{Kind}
-use Rattle.lexer.specs.declared.Kind.TheVariants.{Number, Name, Operator, Word, Bad, End}
+use Rattle.lexer.specs.declared.Kind.TheVariants.{Name, Operator, Word}
 use Rattle.pass.specs.declared.cursor.Spot.{Spot}
 use Rattle.recipe.specs.declared.cause.Refusal.{Refusal}
 use Rattle.recipe.specs.Causes.{cause_number}
@@ -52,20 +52,13 @@ ahead text s = rest text s.look
 
 -- no token `w` comes first
 abbrev pub OtherWord : AWord → List Token → Type 0
-OtherWord w [] = Unit {0}
-OtherWord w (ANumber n ∷ ts) = Unit {0}
-OtherWord w (AName x ∷ ts) = Unit {0}
-OtherWord w (AnOperator p o ∷ ts) = Unit {0}
 OtherWord w (TheWord p v ∷ ts) = (code w == code v) ≡ false
-OtherWord w (ABad p c ∷ ts) = Unit {0}
+OtherWord w _ = Unit {0}
 
+-- no name comes first
 abbrev pub NoName : List Token → Type 0
-NoName [] = Unit {0}
-NoName (ANumber n ∷ ts) = Unit {0}
 NoName (AName x ∷ ts) = ⊥
-NoName (AnOperator p o ∷ ts) = Unit {0}
-NoName (TheWord p v ∷ ts) = Unit {0}
-NoName (ABad p c ∷ ts) = Unit {0}
+NoName _ = Unit {0}
 
 -- Further on: the next spot, with a token `t` between that makes no word.
 pub record Past (text : List ℕ) (here : Spot) (t : Token) (s : Spot) : Type 0 where
@@ -83,12 +76,9 @@ Stops text here e = (e.cause ≡ Grammar) × (e.place ≡ first_place (length te
 
 -- no token of the kind comes first, where that is a word or a name
 abbrev pub Missing : Kind → List Token → Type 0
-Missing (Number n) ts = Unit {0}
-Missing Name ts = NoName ts
-Missing (Operator o) ts = Unit {0}
 Missing (Word w) ts = OtherWord w ts
-Missing (Bad c) ts = Unit {0}
-Missing End ts = Unit {0}
+Missing Name ts = NoName ts
+Missing _ ts = Unit {0}
 
 abbrev pub Expects : List ℕ → Spot → Kind → Result Spot Refusal → Type 0
 Expects text here kind r =

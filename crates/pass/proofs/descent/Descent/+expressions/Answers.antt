@@ -7,7 +7,9 @@ use Rattle.pass.specs.Outputs.{emitted, Made, MadeAll}
 use Rattle.pass.specs.Reads.{ahead}
 use Rattle.recipe.specs.Machine.{nothing}
 use Rattle.pass.proofs.Lookups.{inner_env}
-use Rattle.pass.proofs.Steps.{known_ahead, other, arguments_more, arguments_more_bad, arguments_done, arguments_bad, number_read, name_read, call_read, bracket_read, bracket_bad, chain_more, chain_more_bad, chain_full, chain_done, not_joined, let_read, let_bad, ifp_read, ifp_bad, ifp_else_bad, ifp_first_bad, no_let_ifp}
+use Rattle.pass.proofs.Steps.{known_ahead, other, arguments_more, arguments_more_bad, arguments_done, arguments_bad, number_read, name_read, call_read}
+use Rattle.pass.proofs.Steps.{bracket_read, bracket_bad, chain_more, chain_more_bad, chain_full, chain_done, not_joined, let_read, let_bad, ifp_read, ifp_bad}
+use Rattle.pass.proofs.Steps.{ifp_else_bad, ifp_first_bad, no_let_ifp}
 use Rattle.pass.proofs.Makes.{at_of, from, to, knowing, made_num, made_var, made_group, made_op, made_let, made_ifp, made_more, made_call}
 use Rattle.pass.proofs.Spots.{further, past_kind, exit, first_argument, first_operand}
 use Rattle.pass.proofs.descent.Descent.+expressions.Goals as goal
