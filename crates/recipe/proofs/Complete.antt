@@ -1,20 +1,22 @@
 -- The machine reads every text of the grammar that keeps the limits, and answers its tree. So a text has one such tree at most.
-use Rattle.std.proofs.Common.{◌≡◌, ℕ, ◌+◌, ◌≤◌, cond, leb, List, [], ◌∷◌, refl, ◌∙◌, arith}
+use Rattle.std.proofs.Common.{◌≡◌, ℕ, ◌+◌, ◌≤◌, cond, leb, List, ◌∷◌, refl, ◌∙◌, arith}
 use mathlib.Core.Option.{Option, none, some}
 use Rattle.std.proofs.lemmas.Bool.{le-leb}
-use Rattle.recipe.specs.Tokens.{Op, In, Then, Else, Open, Close, Comma, Equals, Ident}
+use Rattle.recipe.specs.Tokens.{Op, In, Open, Close, Comma, Equals, Ident}
 use Rattle.recipe.specs.Tokens.{Token, Name, Operator, TheWord, Verdict, fine}
-use Rattle.recipe.specs.Grammar.{Expr, var, let_in, ifp, call, Arguments, one, more, Several, one_only, and_then, Declaration}
+use Rattle.recipe.specs.Grammar.{Expr, call, Arguments, one, more, Several, one_only, and_then, Declaration}
 use Rattle.recipe.specs.Grammar.{declare, Recipe, JoinsProducts, by_plus, by_minus, JoinsAtoms, by_times, by_over, IsExpr, a_let, an_ifp}
 use Rattle.recipe.specs.Grammar.{a_sum, IsSum, a_product, and_product, IsProduct, an_atom, and_atom, IsAtom, a_number, a_name, a_call, a_weigh}
 use Rattle.recipe.specs.Grammar.{bracketed, IsArguments, an_argument, and_argument, IsNames, a_parameter, and_parameter, declared}
 use Rattle.recipe.specs.Grammar.{IsDeclarations, a_declaration, and_declaration, IsRecipe, a_recipe}
 use Rattle.recipe.specs.Machine.{Left, nothing, left, apply, Context, in_body, in_main, let_value, let_body, if_test}
 use Rattle.recipe.specs.Machine.{if_then, if_else, bracket, argument, State, start, first_head, head_open, head_name, head_next}
-use Rattle.recipe.specs.Machine.{want, operand, named, after_product, after_sum, after_expr}
+use Rattle.recipe.specs.Machine.{want, operand, after_product, after_sum, after_expr}
 use Rattle.recipe.specs.Limits.{size, depth, reading, unless}
 use Rattle.recipe.specs.Within.{nesting, nestings, constructs, constructs_of, all_constructs, FitDeclarations}
 use Rattle.recipe.specs.Within.{Within}
+use Rattle.recipe.proofs.Alike.{AfterExpr, at_end, at_name, at_in, at_then, at_else, at_close, at_comma, AfterProduct, AfterAtom, ended, joins}
+use Rattle.recipe.proofs.Alike.{reads, sum_over, product_over, name_over, let_over, ifp_over, as_operand_sum}
 use Rattle.recipe.proofs.Outputs.{constructs_more, constructs_of_grow}
 
 -- Limits that are kept.
@@ -33,68 +35,7 @@ few s p v h = rw (le-leb s 8 h) refl
 fits : (s p : ℕ) (v : Verdict Recipe) → s ≤ 31 → unless (cond (leb s 31) 0 7) p v ≡ v
 fits s p v h = rw (le-leb s 31 h) refl
 
-pub data AfterExpr : List Token → Type 0 where
-  at_end : AfterExpr []
-  at_name : {x : Ident} {ts : List Token} → AfterExpr (Name x ∷ ts)
-  at_in : {p : ℕ} {ts : List Token} → AfterExpr (TheWord p In ∷ ts)
-  at_then : {p : ℕ} {ts : List Token} → AfterExpr (TheWord p Then ∷ ts)
-  at_else : {p : ℕ} {ts : List Token} → AfterExpr (TheWord p Else ∷ ts)
-  at_close : {p : ℕ} {ts : List Token} → AfterExpr (TheWord p Close ∷ ts)
-  at_comma : {p : ℕ} {ts : List Token} → AfterExpr (TheWord p Comma ∷ ts)
-
-pub data AfterProduct : List Token → Type 0 where
-  ended : {ts : List Token} → AfterExpr ts → AfterProduct ts
-  joins : {p : ℕ} {o : Op} {ts : List Token} → JoinsProducts o → AfterProduct (Operator p o ∷ ts)
-
-pub data AfterAtom : List Token → Type 0 where
-  ended : {ts : List Token} → AfterProduct ts → AfterAtom ts
-  joins : {p : ℕ} {o : Op} {ts : List Token} → JoinsAtoms o → AfterAtom (Operator p o ∷ ts)
-
 module _ (len : ℕ) where
-  -- What follows decides that a sum, a product or a name is over.
-  sum_over : {ts : List Token} (e : Expr) (k : Context) (n : ℕ) → AfterExpr ts → reading len (after_sum e k) n ts ≡ reading len (after_expr e k) n ts
-  sum_over e k n at_end = refl
-  sum_over e k n at_name = refl
-  sum_over e k n at_in = refl
-  sum_over e k n at_then = refl
-  sum_over e k n at_else = refl
-  sum_over e k n at_close = refl
-  sum_over e k n at_comma = refl
-
-  product_over_end : {ts : List Token} (S : Left) (e : Expr) (k : Context) (n : ℕ) → AfterExpr ts →
-      reading len (after_product S e k) n ts ≡ reading len (after_sum (apply S e) k) n ts
-  product_over_end S e k n at_end = refl
-  product_over_end S e k n at_name = refl
-  product_over_end S e k n at_in = refl
-  product_over_end S e k n at_then = refl
-  product_over_end S e k n at_else = refl
-  product_over_end S e k n at_close = refl
-  product_over_end S e k n at_comma = refl
-
-  product_over : {ts : List Token} (S : Left) (e : Expr) (k : Context) (n : ℕ) → AfterProduct ts →
-      reading len (after_product S e k) n ts ≡ reading len (after_sum (apply S e) k) n ts
-  product_over S e k n (ended a) = product_over_end S e k n a
-  product_over S e k n (joins by_plus) = refl
-  product_over S e k n (joins by_minus) = refl
-
-  name_over_end : {ts : List Token} (S P : Left) (x : Ident) (k : Context) (n : ℕ) → AfterExpr ts →
-      reading len (named S P x k) n ts ≡ reading len (after_product S (apply P (var x)) k) n ts
-  name_over_end S P x k n at_end = refl
-  name_over_end S P x k n at_name = refl
-  name_over_end S P x k n at_in = refl
-  name_over_end S P x k n at_then = refl
-  name_over_end S P x k n at_else = refl
-  name_over_end S P x k n at_close = refl
-  name_over_end S P x k n at_comma = refl
-
-  name_over : {ts : List Token} (S P : Left) (x : Ident) (k : Context) (n : ℕ) → AfterAtom ts →
-      reading len (named S P x k) n ts ≡ reading len (after_product S (apply P (var x)) k) n ts
-  name_over S P x k n (ended (ended a)) = name_over_end S P x k n a
-  name_over S P x k n (ended (joins by_plus)) = refl
-  name_over S P x k n (ended (joins by_minus)) = refl
-  name_over S P x k n (joins by_times) = refl
-  name_over S P x k n (joins by_over) = refl
-
   -- The operator after a sum, and after a product.
   sum_goes_on : {o : Op} (a : Expr) (k : Context) (n p : ℕ) (us : List Token) → JoinsProducts o → n + 1 ≤ 2000 →
       reading len (after_sum a k) n (Operator p o ∷ us) ≡ reading len (operand (left a o) nothing k) (n + 1) us
@@ -105,23 +46,6 @@ module _ (len : ℕ) where
       reading len (after_product S a k) n (Operator p o ∷ us) ≡ reading len (operand S (left a o) k) (n + 1) us
   product_goes_on S a k n p us by_times h = room (n + 1) p _ h
   product_goes_on S a k n p us by_over h = room (n + 1) p _ h
-
-  -- An expression that begins as an operand does.
-  mutual
-    as_operand_sum : {e : Expr} {ts rest : List Token} → IsSum e ts rest → (k : Context) (n : ℕ) → reading len (want k) n ts ≡ reading len (operand nothing nothing k) n ts
-    as_operand_sum (a_product p) k n = as_operand p k n
-    as_operand_sum (and_product s j p) k n = as_operand_sum s k n
-
-    as_operand : {e : Expr} {ts rest : List Token} → IsProduct e ts rest → (k : Context) (n : ℕ) → reading len (want k) n ts ≡ reading len (operand nothing nothing k) n ts
-    as_operand (an_atom a) k n = as_operand_atom a k n
-    as_operand (and_atom p j a) k n = as_operand p k n
-
-    as_operand_atom : {e : Expr} {ts rest : List Token} → IsAtom e ts rest → (k : Context) (n : ℕ) → reading len (want k) n ts ≡ reading len (operand nothing nothing k) n ts
-    as_operand_atom a_number k n = refl
-    as_operand_atom a_name k n = refl
-    as_operand_atom (a_call m) k n = refl
-    as_operand_atom a_weigh k n = refl
-    as_operand_atom (bracketed e) k n = refl
 
   -- the last of some arguments, with the context that it stands in
   abbrev after_arguments : Left → Left → Ident → Arguments → Context → State
@@ -138,17 +62,6 @@ module _ (len : ℕ) where
   arguments_end S P f (one e) k n p ts h = room n p _ h
   arguments_end S P f (more es e) k n p ts h = room n p _ h
 
-  -- The end of a let or an ifp is the end of its last part.
-  let_over : (x : Ident) (e₁ e₂ : Expr) (k : Context) (n : ℕ) (ts : List Token) →
-      reading len (after_expr e₂ (let_body x e₁ k)) n ts ≡ reading len (after_expr (let_in x e₁ e₂) k) n ts
-  let_over x e₁ e₂ k n [] = refl
-  let_over x e₁ e₂ k n (t ∷ ts) = refl
-
-  ifp_over : (e₀ e₁ e₂ : Expr) (k : Context) (n : ℕ) (ts : List Token) →
-      reading len (after_expr e₂ (if_else e₀ e₁ k)) n ts ≡ reading len (after_expr (ifp e₀ e₁ e₂) k) n ts
-  ifp_over e₀ e₁ e₂ k n [] = refl
-  ifp_over e₀ e₁ e₂ k n (t ∷ ts) = refl
-
   mutual
     pub reads_expr : {e : Expr} {ts rest : List Token} → IsExpr e ts rest → AfterExpr rest → (k : Context) (n : ℕ) → depth k + nesting e ≤ 32 → constructs n e ≤ 2000 →
         reading len (want k) n ts ≡ reading len (after_expr e k) (constructs n e) rest
@@ -157,22 +70,22 @@ module _ (len : ℕ) where
         let m = constructs (n + 1) e₁ in
         let_deep (depth k) (n + 1) q _ (omega arith) (omega arith) ∙ (deep (depth k + 1) (n + 1) r _ (omega arith) (omega arith)
         ∙ (reads_expr v at_in (let_value x k) (n + 1) (omega arith) (omega arith) ∙ (deep (depth k + 1) m p _ (omega arith) (omega arith)
-        ∙ (reads_expr b a (let_body x e₁ k) m (omega arith) h ∙ let_over x e₁ e₂ k (constructs m e₂) rest))))
+        ∙ (reads_expr b a (let_body x e₁ k) m (omega arith) h ∙ reads len (constructs m e₂) (let_over x e₁ e₂ k rest)))))
     reads_expr (an_ifp {p = p} {q = q} {r = r} {e₀ = e₀} {e₁ = e₁} {e₂ = e₂} {rest = rest} t y z) a k n d h =
         let g₀ = constructs_more (n + 1) e₀ in let g₁ = constructs_more (constructs (n + 1) e₀) e₁ in let g₂ = constructs_more (constructs (constructs (n + 1) e₀) e₁) e₂ in
         let m = constructs (n + 1) e₀ in let l = constructs m e₁ in
         deep (depth k + 1) (n + 1) r _ (omega arith) (omega arith) ∙ (reads_expr t at_then (if_test k) (n + 1) (omega arith) (omega arith)
         ∙ (deep (depth k + 1) m p _ (omega arith) (omega arith) ∙ (reads_expr y at_else (if_then e₀ k) m (omega arith) (omega arith)
-        ∙ (deep (depth k + 1) l q _ (omega arith) (omega arith) ∙ (reads_expr z a (if_else e₀ e₁ k) l (omega arith) h ∙ ifp_over e₀ e₁ e₂ k (constructs l e₂) rest)))))
-    reads_expr (a_sum {e = e} s) a k n d h = as_operand_sum s k n ∙ (reads_sum s (ended a) k n d h ∙ sum_over e k (constructs n e) a)
+        ∙ (deep (depth k + 1) l q _ (omega arith) (omega arith) ∙ (reads_expr z a (if_else e₀ e₁ k) l (omega arith) h ∙ reads len (constructs l e₂) (ifp_over e₀ e₁ e₂ k rest))))))
+    reads_expr (a_sum {e = e} s) a k n d h = reads len n (as_operand_sum s k) ∙ (reads_sum s (ended a) k n d h ∙ reads len (constructs n e) (sum_over e k a))
 
     pub reads_sum : {e : Expr} {ts rest : List Token} → IsSum e ts rest → AfterProduct rest → (k : Context) (n : ℕ) → depth k + nesting e ≤ 32 → constructs n e ≤ 2000 →
         reading len (operand nothing nothing k) n ts ≡ reading len (after_sum e k) (constructs n e) rest
-    reads_sum (a_product {e = e} p) a k n d h = reads_product p (ended a) nothing k n d h ∙ product_over nothing e k (constructs n e) a
+    reads_sum (a_product {e = e} p) a k n d h = reads_product p (ended a) nothing k n d h ∙ reads len (constructs n e) (product_over nothing e k a)
     reads_sum (and_product {p = q} {o = o} {a = x} {b = y} {us = us} s j p) a k n d h =
         let g = constructs_more (constructs n x + 1) y in
         reads_sum s (joins j) k n (omega arith) (omega arith) ∙ (sum_goes_on x k (constructs n x) q us j (omega arith)
-        ∙ (reads_product p (ended a) (left x o) k (constructs n x + 1) (omega arith) h ∙ product_over (left x o) y k (constructs (constructs n x + 1) y) a))
+        ∙ (reads_product p (ended a) (left x o) k (constructs n x + 1) (omega arith) h ∙ reads len (constructs (constructs n x + 1) y) (product_over (left x o) y k a)))
 
     pub reads_product : {e : Expr} {ts rest : List Token} → IsProduct e ts rest → AfterAtom rest → (S : Left) (k : Context) (n : ℕ) → depth k + nesting e ≤ 32 → constructs n e ≤ 2000 →
         reading len (operand S nothing k) n ts ≡ reading len (after_product S e k) (constructs n e) rest
@@ -185,7 +98,7 @@ module _ (len : ℕ) where
     pub reads_atom : {e : Expr} {ts rest : List Token} → IsAtom e ts rest → AfterAtom rest → (S P : Left) (k : Context) (n : ℕ) → depth k + nesting e ≤ 32 → constructs n e ≤ 2000 →
         reading len (operand S P k) n ts ≡ reading len (after_product S (apply P e) k) (constructs n e) rest
     reads_atom (a_number {n = x}) a S P k n d h = room (n + 1) x.place _ h
-    reads_atom (a_name {x = x}) a S P k n d h = room (n + 1) x.place _ h ∙ name_over S P x k (n + 1) a
+    reads_atom (a_name {x = x}) a S P k n d h = room (n + 1) x.place _ h ∙ reads len (n + 1) (name_over S P x k a)
     reads_atom (a_call {p = p} {q = q} {f = f} {es = es} {rest = rest} m) a S P k n d h =
         let g = constructs_of_grow (n + 1) es in
         room (n + 1) f.place _ (omega arith) ∙ (deep (depth k + 1) (n + 1) q _ (omega arith) (omega arith)

@@ -14,57 +14,14 @@ use Rattle.recipe.specs.Machine.{if_then, if_else, bracket, argument, State, stu
 use Rattle.recipe.specs.Machine.{want, let_name, let_equals, operand, weighed, named, after_product, after_sum, after_expr}
 use Rattle.recipe.specs.Machine.{feed, run, finish}
 use Rattle.recipe.specs.Limits.{depth, reading, judged, counted}
-use Rattle.recipe.proofs.Complete.{AfterExpr, at_end, at_name, at_in, at_then, at_else, at_close, at_comma, AfterProduct, AfterAtom, ended, joins}
+use Rattle.recipe.proofs.Alike as alike
+use Rattle.recipe.proofs.Alike.{AfterExpr, at_end, at_name, at_in, at_then, at_else, at_close, at_comma, AfterProduct, AfterAtom, ended, joins}
 use Rattle.recipe.proofs.Sound as sound
 use Rattle.recipe.specs.Theorem.{first_place}
 use Rattle.std.proofs.lemmas.List.{append-nil}
 
 abbrev pub answer : State → List Token → Option Recipe
 answer q ts = finish (run q ts)
-
--- What follows decides that a sum, a product or a name is over.
-pub sum_over : {ts : List Token} (e : Expr) (k : Context) → AfterExpr ts → answer (after_sum e k) ts ≡ answer (after_expr e k) ts
-sum_over e k at_end = refl
-sum_over e k at_name = refl
-sum_over e k at_in = refl
-sum_over e k at_then = refl
-sum_over e k at_else = refl
-sum_over e k at_close = refl
-sum_over e k at_comma = refl
-
-product_over_end : {ts : List Token} (S : Left) (e : Expr) (k : Context) → AfterExpr ts →
-    answer (after_product S e k) ts ≡ answer (after_sum (apply S e) k) ts
-product_over_end S e k at_end = refl
-product_over_end S e k at_name = refl
-product_over_end S e k at_in = refl
-product_over_end S e k at_then = refl
-product_over_end S e k at_else = refl
-product_over_end S e k at_close = refl
-product_over_end S e k at_comma = refl
-
-pub product_over : {ts : List Token} (S : Left) (e : Expr) (k : Context) → AfterProduct ts →
-    answer (after_product S e k) ts ≡ answer (after_sum (apply S e) k) ts
-product_over S e k (ended a) = product_over_end S e k a
-product_over S e k (joins by_plus) = refl
-product_over S e k (joins by_minus) = refl
-
-name_over_end : {ts : List Token} (S P : Left) (x : Ident) (k : Context) → AfterExpr ts →
-    answer (named S P x k) ts ≡ answer (after_product S (apply P (var x)) k) ts
-name_over_end S P x k at_end = refl
-name_over_end S P x k at_name = refl
-name_over_end S P x k at_in = refl
-name_over_end S P x k at_then = refl
-name_over_end S P x k at_else = refl
-name_over_end S P x k at_close = refl
-name_over_end S P x k at_comma = refl
-
-pub name_over : {ts : List Token} (S P : Left) (x : Ident) (k : Context) → AfterAtom ts →
-    answer (named S P x k) ts ≡ answer (after_product S (apply P (var x)) k) ts
-name_over S P x k (ended (ended a)) = name_over_end S P x k a
-name_over S P x k (ended (joins by_plus)) = refl
-name_over S P x k (ended (joins by_minus)) = refl
-name_over S P x k (joins by_times) = refl
-name_over S P x k (joins by_over) = refl
 
 -- The operator after a sum, and after a product.
 sum_goes_on : {o : Op} (a : Expr) (k : Context) (p : ℕ) (us : List Token) → JoinsProducts o →
@@ -76,23 +33,6 @@ product_goes_on : {o : Op} (S : Left) (a : Expr) (k : Context) (p : ℕ) (us : L
     answer (after_product S a k) (Operator p o ∷ us) ≡ answer (operand S (left a o) k) us
 product_goes_on S a k p us by_times = refl
 product_goes_on S a k p us by_over = refl
-
--- An expression that begins as an operand does.
-mutual
-  as_operand_sum : {e : Expr} {ts rest : List Token} → IsSum e ts rest → (k : Context) → answer (want k) ts ≡ answer (operand nothing nothing k) ts
-  as_operand_sum (a_product p) k = as_operand p k
-  as_operand_sum (and_product s j p) k = as_operand_sum s k
-
-  as_operand : {e : Expr} {ts rest : List Token} → IsProduct e ts rest → (k : Context) → answer (want k) ts ≡ answer (operand nothing nothing k) ts
-  as_operand (an_atom a) k = as_operand_atom a k
-  as_operand (and_atom p j a) k = as_operand p k
-
-  as_operand_atom : {e : Expr} {ts rest : List Token} → IsAtom e ts rest → (k : Context) → answer (want k) ts ≡ answer (operand nothing nothing k) ts
-  as_operand_atom a_number k = refl
-  as_operand_atom a_name k = refl
-  as_operand_atom (a_call m) k = refl
-  as_operand_atom a_weigh k = refl
-  as_operand_atom (bracketed e) k = refl
 
 -- the last of some arguments, with the context that it stands in
 abbrev after_arguments : Left → Left → Ident → Arguments → Context → State
@@ -109,31 +49,20 @@ arguments_end : (S P : Left) (f : Ident) (es : Arguments) (k : Context) (p : ℕ
 arguments_end S P f (one e) k p ts = refl
 arguments_end S P f (more es e) k p ts = refl
 
--- The end of a let or an ifp is the end of its last part.
-pub let_over : (x : Ident) (e₁ e₂ : Expr) (k : Context) (ts : List Token) →
-    answer (after_expr e₂ (let_body x e₁ k)) ts ≡ answer (after_expr (let_in x e₁ e₂) k) ts
-let_over x e₁ e₂ k [] = refl
-let_over x e₁ e₂ k (t ∷ ts) = refl
-
-pub ifp_over : (e₀ e₁ e₂ : Expr) (k : Context) (ts : List Token) →
-    answer (after_expr e₂ (if_else e₀ e₁ k)) ts ≡ answer (after_expr (ifp e₀ e₁ e₂) k) ts
-ifp_over e₀ e₁ e₂ k [] = refl
-ifp_over e₀ e₁ e₂ k (t ∷ ts) = refl
-
 mutual
   pub reads_expr : {e : Expr} {ts rest : List Token} → IsExpr e ts rest → AfterExpr rest → (k : Context) →
       answer (want k) ts ≡ answer (after_expr e k) rest
   reads_expr (a_let {x = x} {e₁ = e₁} {e₂ = e₂} {rest = rest} v b) a k =
-      reads_expr v at_in (let_value x k) ∙ (reads_expr b a (let_body x e₁ k) ∙ let_over x e₁ e₂ k rest)
+      reads_expr v at_in (let_value x k) ∙ (reads_expr b a (let_body x e₁ k) ∙ alike.answers (alike.let_over x e₁ e₂ k rest))
   reads_expr (an_ifp {e₀ = e₀} {e₁ = e₁} {e₂ = e₂} {rest = rest} t y n) a k =
-      reads_expr t at_then (if_test k) ∙ (reads_expr y at_else (if_then e₀ k) ∙ (reads_expr n a (if_else e₀ e₁ k) ∙ ifp_over e₀ e₁ e₂ k rest))
-  reads_expr (a_sum {e = e} s) a k = as_operand_sum s k ∙ (reads_sum s (ended a) k ∙ sum_over e k a)
+      reads_expr t at_then (if_test k) ∙ (reads_expr y at_else (if_then e₀ k) ∙ (reads_expr n a (if_else e₀ e₁ k) ∙ alike.answers (alike.ifp_over e₀ e₁ e₂ k rest)))
+  reads_expr (a_sum {e = e} s) a k = alike.answers (alike.as_operand_sum s k) ∙ (reads_sum s (ended a) k ∙ alike.answers (alike.sum_over e k a))
 
   pub reads_sum : {e : Expr} {ts rest : List Token} → IsSum e ts rest → AfterProduct rest → (k : Context) →
       answer (operand nothing nothing k) ts ≡ answer (after_sum e k) rest
-  reads_sum (a_product {e = e} p) a k = reads_product p (ended a) nothing k ∙ product_over nothing e k a
+  reads_sum (a_product {e = e} p) a k = reads_product p (ended a) nothing k ∙ alike.answers (alike.product_over nothing e k a)
   reads_sum (and_product {p = q} {o = o} {a = x} {b = y} {us = us} s j p) a k =
-      reads_sum s (joins j) k ∙ (sum_goes_on x k q us j ∙ (reads_product p (ended a) (left x o) k ∙ product_over (left x o) y k a))
+      reads_sum s (joins j) k ∙ (sum_goes_on x k q us j ∙ (reads_product p (ended a) (left x o) k ∙ alike.answers (alike.product_over (left x o) y k a)))
 
   pub reads_product : {e : Expr} {ts rest : List Token} → IsProduct e ts rest → AfterAtom rest → (S : Left) (k : Context) →
       answer (operand S nothing k) ts ≡ answer (after_product S e k) rest
@@ -144,7 +73,7 @@ mutual
   pub reads_atom : {e : Expr} {ts rest : List Token} → IsAtom e ts rest → AfterAtom rest → (S P : Left) (k : Context) →
       answer (operand S P k) ts ≡ answer (after_product S (apply P e) k) rest
   reads_atom a_number a S P k = refl
-  reads_atom (a_name {x = x}) a S P k = name_over S P x k a
+  reads_atom (a_name {x = x}) a S P k = alike.answers (alike.name_over S P x k a)
   reads_atom (a_call {p = p} {f = f} {es = es} {rest = rest} m) a S P k =
       reads_arguments m at_close S P f k ∙ arguments_end S P f es k p rest
   reads_atom a_weigh a S P k = refl
@@ -227,7 +156,7 @@ abbrev Answered : State → List Token → Type 0
 Answered q ts = (r : Recipe) × (answer q ts ≡ some r)
 
 product_closed : (S : Left) (e : Expr) (k : Context) → Answered (after_expr (apply S e) k) (closing k) → Answered (after_product S e k) (closing k)
-product_closed S e k (r, h) = let a = closing_follows k in (r, product_over S e k (AfterProduct.ended a) ∙ (sum_over (apply S e) k a ∙ h))
+product_closed S e k (r, h) = let a = closing_follows k in (r, alike.answers (alike.product_over S e k (AfterProduct.ended a)) ∙ (alike.answers (alike.sum_over (apply S e) k a) ∙ h))
 
 number_closed : (k : Context) → ((e : Expr) → Answered (after_expr e k) (closing k)) → Answered (want k) (Number a_literal ∷ closing k)
 number_closed k h = product_closed nothing (num a_literal) k (h (num a_literal))
@@ -236,14 +165,14 @@ closed : (k : Context) (e : Expr) → Answered (after_expr e k) (closing k)
 unfolding closing
 closed (in_body D f xs) e = (recipe (with_one D (declare f xs e)) 0 (num a_literal), refl)
 closed (in_main D p) e = (recipe D p e, refl)
-closed (let_value x k) e = number_closed (let_body x e k) (λ e₂. let (r, h) = closed k (let_in x e e₂) in (r, let_over x e e₂ k (closing k) ∙ h))
-closed (let_body x e₁ k) e = let (r, h) = closed k (let_in x e₁ e) in (r, let_over x e₁ e k (closing k) ∙ h)
+closed (let_value x k) e = number_closed (let_body x e k) (λ e₂. let (r, h) = closed k (let_in x e e₂) in (r, alike.answers (alike.let_over x e e₂ k (closing k)) ∙ h))
+closed (let_body x e₁ k) e = let (r, h) = closed k (let_in x e₁ e) in (r, alike.answers (alike.let_over x e₁ e k (closing k)) ∙ h)
 closed (if_test k) e =
     let again : (e₁ e₂ : Expr) → Answered (after_expr e₂ (if_else e e₁ k)) (closing k) =
-    λ e₁ e₂. let (r, h) = closed k (ifp e e₁ e₂) in (r, ifp_over e e₁ e₂ k (closing k) ∙ h) in
+    λ e₁ e₂. let (r, h) = closed k (ifp e e₁ e₂) in (r, alike.answers (alike.ifp_over e e₁ e₂ k (closing k)) ∙ h) in
     number_closed (if_else e (num a_literal) k) (again (num a_literal))
-closed (if_then e₀ k) e = number_closed (if_else e₀ e k) (λ e₂. let (r, h) = closed k (ifp e₀ e e₂) in (r, ifp_over e₀ e e₂ k (closing k) ∙ h))
-closed (if_else e₀ e₁ k) e = let (r, h) = closed k (ifp e₀ e₁ e) in (r, ifp_over e₀ e₁ e k (closing k) ∙ h)
+closed (if_then e₀ k) e = number_closed (if_else e₀ e k) (λ e₂. let (r, h) = closed k (ifp e₀ e e₂) in (r, alike.answers (alike.ifp_over e₀ e e₂ k (closing k)) ∙ h))
+closed (if_else e₀ e₁ k) e = let (r, h) = closed k (ifp e₀ e₁ e) in (r, alike.answers (alike.ifp_over e₀ e₁ e k (closing k)) ∙ h)
 closed (bracket S P k) e = product_closed S (apply P (group e)) k (closed k (apply S (apply P (group e))))
 closed (argument S P f es k) e =
     product_closed S (apply P (call f (with_argument es e))) k (closed k (apply S (apply P (call f (with_argument es e)))))
@@ -268,9 +197,9 @@ productive (operand S P k) = inr (Number a_literal ∷ closing k, product_closed
 productive (weighed S P k) = inr (Number a_literal ∷ closing k, product_closed S (apply P (weigh a_literal)) k (closed k (apply S (apply P (weigh a_literal)))))
 productive (named S P x k) =
     let (r, h) = product_closed S (apply P (var x)) k (closed k (apply S (apply P (var x)))) in
-    inr (closing k, (r, name_over S P x k (AfterAtom.ended (AfterProduct.ended (closing_follows k))) ∙ h))
+    inr (closing k, (r, alike.answers (alike.name_over S P x k (AfterAtom.ended (AfterProduct.ended (closing_follows k)))) ∙ h))
 productive (after_product S e k) = inr (closing k, product_closed S e k (closed k (apply S e)))
-productive (after_sum e k) = let (r, h) = closed k e in inr (closing k, (r, sum_over e k (closing_follows k) ∙ h))
+productive (after_sum e k) = let (r, h) = closed k e in inr (closing k, (r, alike.answers (alike.sum_over e k (closing_follows k)) ∙ h))
 productive (after_expr e k) = inr (closing k, closed k e)
 
 pub run-++ : (us : List Token) (q : State) (vs : List Token) → run q (us ++ vs) ≡ run (run q us) vs

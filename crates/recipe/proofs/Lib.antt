@@ -1,3 +1,4 @@
+pub mod Alike
 pub mod Complete
 pub mod Sound
 pub mod Kept
