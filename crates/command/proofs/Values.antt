@@ -1,10 +1,9 @@
 -- The value of digits, one after another.
-use Rattle.std.proofs.Common.{◌≡◌, ℕ, ◌+◌, ◌<◌, ◌≤◌, Bool, true, false, cond, ◌&&◌, leb, List, [], ◌∷◌, length, get_or, drop, Some, None, Option, sym, refl, ap, ◌∙◌, subst, inl, inr, arith}
+use Rattle.std.proofs.Common.{◌≡◌, ℕ, ◌+◌, ◌<◌, ◌≤◌, Bool, true, false, cond, ◌&&◌, leb, List, [], ◌∷◌, length, get_or, drop, Some, None, Option, sym, refl, ap, ◌∙◌, inl, inr, arith}
 use Rattle.std.specs.Bool.{then_some}
 use Rattle.std.proofs.lemmas.List.{drop_more, drop_all}
-use Rattle.std.proofs.lemmas.Bool.{and_parts, and_cases, and_left, and_right, lt-leb, le-leb, leb-true, leb-false, cond-false}
-use Rattle.command.specs.Numbers.{digit, all_digits, with_digit, decimal_after, decimal, value_in, below_zero_in, grams_in}
-use Rattle.command.specs.Laws.{Bounded}
+use Rattle.std.proofs.lemmas.Bool.{and_parts, and_cases, and_left, and_right, lt-leb, le-leb, leb-false, cond-false}
+use Rattle.command.specs.Numbers.{digit, all_digits, with_digit, decimal_after, decimal, value_in}
 
 grows : (n : ℕ) (bs : List ℕ) → n ≤ decimal_after n bs
 grows n [] = omega arith

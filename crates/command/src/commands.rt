@@ -48,7 +48,7 @@ pub(crate) fn command_of(heap: Global, rest: &mut Arguments<Verb>) -> Result<Com
         Verb::Interval => Ok(Command::Interval(rest.sole(Wanted::Interval)?)),
         Verb::Pile => Ok(Command::Pile(rest.sole(Wanted::Pile)?)),
         Verb::Weigh => Ok(Command::Weigh(rest.sole(Wanted::Channel)?)),
-        Verb::Total => Ok(Command::Total(channels(heap, rest)?)),
+        Verb::Total => channels(heap, rest).map(Command::Total),
         Verb::Arithmetic => Ok(Command::Arithmetic(rest.sole(Wanted::Arithmetic)?)),
     }
 }

@@ -1,16 +1,29 @@
-use Rattle.std.proofs.Common.{◌≡◌, refl, arith, rules}
+use Rattle.std.proofs.Common.{arith, rules}
 use Rattle.std.specs.Prelude.{codes}
-use Rattle.std.proofs.lemmas.Slice.Eq.{text_from_reads}
+use Rattle.command.specs.Names.{verb_of}
+use Rattle.command.proofs.Tables.{spelled}
 use Rattle.command.proofs.names.VerbFromWord.from_word.Goals as goal
 
 pub returns-in-station : goal.returns-in-station
-returns-in-station c = let e : c.args.word.now ≡ codes "station" = text_from_reads _ (codes "station") (omega arith) (search rules) in rw e refl
+returns-in-station c = spelled verb_of c.args.word.now (codes "station") (omega arith) (search rules)
 
 pub returns-in-records : goal.returns-in-records
-returns-in-records c = let e : c.args.word.now ≡ codes "records" = text_from_reads _ (codes "records") (omega arith) (search rules) in rw e refl
+returns-in-records c = spelled verb_of c.args.word.now (codes "records") (omega arith) (search rules)
+
+pub returns-in-tare : goal.returns-in-tare
+returns-in-tare c = spelled verb_of c.args.word.now (codes "tare") (omega arith) (search rules)
 
 pub returns-in-interval : goal.returns-in-interval
-returns-in-interval c = let e : c.args.word.now ≡ codes "interval" = text_from_reads _ (codes "interval") (omega arith) (search rules) in rw e refl
+returns-in-interval c = spelled verb_of c.args.word.now (codes "interval") (omega arith) (search rules)
+
+pub returns-in-pile : goal.returns-in-pile
+returns-in-pile c = spelled verb_of c.args.word.now (codes "pile") (omega arith) (search rules)
+
+pub returns-in-weigh : goal.returns-in-weigh
+returns-in-weigh c = spelled verb_of c.args.word.now (codes "weigh") (omega arith) (search rules)
+
+pub returns-in-total : goal.returns-in-total
+returns-in-total c = spelled verb_of c.args.word.now (codes "total") (omega arith) (search rules)
 
 pub returns-in-arithmetic : goal.returns-in-arithmetic
-returns-in-arithmetic c = let e : c.args.word.now ≡ codes "arithmetic" = text_from_reads _ (codes "arithmetic") (omega arith) (search rules) in rw e refl
+returns-in-arithmetic c = spelled verb_of c.args.word.now (codes "arithmetic") (omega arith) (search rules)
