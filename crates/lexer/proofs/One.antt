@@ -54,7 +54,8 @@ name_starts (c ∷ cs) q s p =
       | inr d ↦ subst (Starts q) (sym (letter_ends q s p c cs d)) (starts q (name_token q s) (scan idle p (c ∷ cs)) (place_name q s))
     ]
 
-starts_cond : (q : ℕ) (rest : List Token) (b : Bool) (xs ys : List Token) → Starts q (xs ++ rest) → Starts q (ys ++ rest) → Starts q (cond b xs ys ++ rest)
+starts_cond : (q : ℕ) (rest : List Token) (b : Bool) (xs ys : List Token) → Starts q (xs ++ rest) → Starts q (ys ++ rest) →
+    Starts q (cond b xs ys ++ rest)
 starts_cond q rest true xs ys h g = h
 starts_cond q rest false xs ys h g = g
 

@@ -41,10 +41,12 @@ digit_ends q n p c cs h = simp h
 pub letter_begins : (p c : ℕ) (cs : List ℕ) → letter c ≡ true → digit c ≡ false → scan idle p (c ∷ cs) ≡ scan (letters p (c ∷ [])) (p + 1) cs
 letter_begins p c cs h d = simp (h, d)
 
-pub letter_more : (q : ℕ) (s : List ℕ) (p c : ℕ) (cs : List ℕ) → (letter c || digit c) ≡ true → scan (letters q s) p (c ∷ cs) ≡ scan (letters q (s ++ (c ∷ []))) (p + 1) cs
+pub letter_more : (q : ℕ) (s : List ℕ) (p c : ℕ) (cs : List ℕ) → (letter c || digit c) ≡ true →
+    scan (letters q s) p (c ∷ cs) ≡ scan (letters q (s ++ (c ∷ []))) (p + 1) cs
 letter_more q s p c cs h = simp h
 
-pub letter_ends : (q : ℕ) (s : List ℕ) (p c : ℕ) (cs : List ℕ) → (letter c || digit c) ≡ false → scan (letters q s) p (c ∷ cs) ≡ name_token q s ∷ scan idle p (c ∷ cs)
+pub letter_ends : (q : ℕ) (s : List ℕ) (p c : ℕ) (cs : List ℕ) → (letter c || digit c) ≡ false →
+    scan (letters q s) p (c ∷ cs) ≡ name_token q s ∷ scan idle p (c ∷ cs)
 letter_ends q s p c cs h = simp h
 
 pub sign_at : (p c : ℕ) (cs : List ℕ) → digit c ≡ false → letter c ≡ false → scan idle p (c ∷ cs) ≡ sign p c ++ scan idle (p + 1) cs
@@ -241,7 +243,8 @@ name_at (c ∷ cs) p l h d =
     (letter_begins p c cs h d ∙ (over_letters cs p (c ∷ []) (p + 1)
     ∙ ap (λ i. name_token p (c ∷ take k cs) ∷ scan idle i (drop k cs)) (next_place p k)))
 
-first_in : (test : ℕ → Bool) (cs : List ℕ) (n : ℕ) → 0 < length cs → test (get_or cs 0 0) ≡ true → (n < length cs → test (get_or cs n 0) ≡ false) → 0 < n
+first_in : (test : ℕ → Bool) (cs : List ℕ) (n : ℕ) → 0 < length cs → test (get_or cs 0 0) ≡ true →
+    (n < length cs → test (get_or cs n 0) ≡ false) → 0 < n
 first_in test cs zero l h g = absurd (let e = sym h ∙ g l in cc)
 first_in test cs (suc n) l h g = omega arith
 
@@ -302,20 +305,24 @@ pub record Unreserved (s : List ℕ) : Type 0 where
 unspelled : (s w : List ℕ) → (s ≡ w → ⊥) → bytes_eq s w ≡ false
 unspelled s w h = elim (cases_Bool (bytes_eq s w)) [ inl e ↦ absurd (h ((bytes_eq-Decides s w).0 e)) | inr e ↦ e ]
 
+reads : (s w : List ℕ) (i : ℕ) → s ≡ w → get_or s i 0 ≡ get_or w i 0
+reads s w i e = ap (λ t. get_or t i 0) e
+
 pub plain_name : (s : List ℕ) → Unreserved s → length s ≤ 16 → Stands (λ p. name_token p s ∷ []) s Name
 plain_name s u l =
-    let a = unspelled s (codes "let") (λ e. u.not_let (ap length e) (ap (λ t. get_or t 0 0) e) (ap (λ t. get_or t 1 0) e) (ap (λ t. get_or t 2 0) e)) in
-    let b = unspelled s (codes "in") (λ e. u.not_in (ap length e) (ap (λ t. get_or t 0 0) e) (ap (λ t. get_or t 1 0) e)) in
-    let c = unspelled s (codes "ifp") (λ e. u.not_ifp (ap length e) (ap (λ t. get_or t 0 0) e) (ap (λ t. get_or t 1 0) e) (ap (λ t. get_or t 2 0) e)) in
-    let d = unspelled s (codes "then") (λ e. u.not_then (ap length e) (ap (λ t. get_or t 0 0) e) (ap (λ t. get_or t 1 0) e) (ap (λ t. get_or t 2 0) e) (ap (λ t. get_or t 3 0) e)) in
-    let f = unspelled s (codes "else") (λ e. u.not_else (ap length e) (ap (λ t. get_or t 0 0) e) (ap (λ t. get_or t 1 0) e) (ap (λ t. get_or t 2 0) e) (ap (λ t. get_or t 3 0) e)) in
-    let g = unspelled s (codes "div") (λ e. u.not_div (ap length e) (ap (λ t. get_or t 0 0) e) (ap (λ t. get_or t 1 0) e) (ap (λ t. get_or t 2 0) e)) in
-    let h = unspelled s (codes "weigh") (λ e. u.not_weigh (ap length e) (ap (λ t. get_or t 0 0) e) (ap (λ t. get_or t 1 0) e) (ap (λ t. get_or t 2 0) e) (ap (λ t. get_or t 3 0) e) (ap (λ t. get_or t 4 0) e)) in
+    let a = unspelled s (codes "let") (λ e. u.not_let (ap length e) (reads s _ 0 e) (reads s _ 1 e) (reads s _ 2 e)) in
+    let b = unspelled s (codes "in") (λ e. u.not_in (ap length e) (reads s _ 0 e) (reads s _ 1 e)) in
+    let c = unspelled s (codes "ifp") (λ e. u.not_ifp (ap length e) (reads s _ 0 e) (reads s _ 1 e) (reads s _ 2 e)) in
+    let d = unspelled s (codes "then") (λ e. u.not_then (ap length e) (reads s _ 0 e) (reads s _ 1 e) (reads s _ 2 e) (reads s _ 3 e)) in
+    let f = unspelled s (codes "else") (λ e. u.not_else (ap length e) (reads s _ 0 e) (reads s _ 1 e) (reads s _ 2 e) (reads s _ 3 e)) in
+    let g = unspelled s (codes "div") (λ e. u.not_div (ap length e) (reads s _ 0 e) (reads s _ 1 e) (reads s _ 2 e)) in
+    let h = unspelled s (codes "weigh") (λ e. u.not_weigh (ap length e) (reads s _ 0 e) (reads s _ 1 e) (reads s _ 2 e) (reads s _ 3 e) (reads s _ 4 e)) in
     ((λ text p e b'. simp (a, b, c, d, f, g, h, le-leb (length s) 16 l) (ap (λ t. AName (record { place = p; name = t }) ∷ []) (sym b'))), (tt, tt))
 
 -- ---- the text
 pub after_blanks : (text cs : List ℕ) (at from n : ℕ) → cs ≡ drop from text → from ≡ min at (length text) → n ≤ length cs →
-    ((k : ℕ) → k < n → blank (get_or cs k 0) ≡ true) → (n < length cs → blank (get_or cs n 0) ≡ false) → tokens_from text at ≡ tokens_from text (from + n)
+    ((k : ℕ) → k < n → blank (get_or cs k 0) ≡ true) → (n < length cs → blank (get_or cs n 0) ≡ false) →
+    tokens_from text at ≡ tokens_from text (from + n)
 after_blanks text cs at from n e m b h g =
     let same : tokens_from text at ≡ tokens_from text from =
     elim (cases_lt at (length text)) [

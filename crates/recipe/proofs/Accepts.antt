@@ -67,7 +67,8 @@ clean (a_recipe l e) = clean_declarations l ∙ clean_expr e
 then_on : {A : Type 0} (v : Verdict A) (a : A) (next : A → Answer) → v ≡ fine a → then v next ≡ next a
 then_on v a next e = ap (λ u. then u next) e
 
-then_back : {A : Type 0} (v : Verdict A) (next : A → Answer) (ws : List ℕ) → then v next ≡ accepted ws → (a : A) × (v ≡ fine a) × (next a ≡ accepted ws)
+then_back : {A : Type 0} (v : Verdict A) (next : A → Answer) (ws : List ℕ) → then v next ≡ accepted ws →
+    (a : A) × (v ≡ fine a) × (next a ≡ accepted ws)
 then_back (fine a) next ws e = (a, refl, e)
 then_back (wrong c p) next ws e = absurd cc
 

@@ -73,7 +73,8 @@ name_over_end S P x k at_else = goes refl (λ n. refl)
 name_over_end S P x k at_close = goes refl (λ n. refl)
 name_over_end S P x k at_comma = goes refl (λ n. refl)
 
-pub name_over : {ts : List Token} (S P : Left) (x : Ident) (k : Context) → AfterAtom ts → Alike (named S P x k) (after_product S (apply P (var x)) k) ts
+pub name_over : {ts : List Token} (S P : Left) (x : Ident) (k : Context) → AfterAtom ts →
+    Alike (named S P x k) (after_product S (apply P (var x)) k) ts
 name_over S P x k (ended (ended a)) = name_over_end S P x k a
 name_over S P x k (ended (joins by_plus)) = goes refl (λ n. refl)
 name_over S P x k (ended (joins by_minus)) = goes refl (λ n. refl)

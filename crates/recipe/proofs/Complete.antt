@@ -63,7 +63,8 @@ module _ (len : ℕ) where
   arguments_end S P f (more es e) k n p ts h = room n p _ h
 
   mutual
-    pub reads_expr : {e : Expr} {ts rest : List Token} → IsExpr e ts rest → AfterExpr rest → (k : Context) (n : ℕ) → depth k + nesting e ≤ 32 → constructs n e ≤ 2000 →
+    pub reads_expr : {e : Expr} {ts rest : List Token} → IsExpr e ts rest → AfterExpr rest → (k : Context) (n : ℕ) → depth k + nesting e ≤ 32 →
+        constructs n e ≤ 2000 →
         reading len (want k) n ts ≡ reading len (after_expr e k) (constructs n e) rest
     reads_expr (a_let {p = p} {q = q} {r = r} {x = x} {e₁ = e₁} {e₂ = e₂} {us = us} {rest = rest} v b) a k n d h =
         let g₁ = constructs_more (n + 1) e₁ in let g₂ = constructs_more (constructs (n + 1) e₁) e₂ in
@@ -77,9 +78,11 @@ module _ (len : ℕ) where
         deep (depth k + 1) (n + 1) r _ (omega arith) (omega arith) ∙ (reads_expr t at_then (if_test k) (n + 1) (omega arith) (omega arith)
         ∙ (deep (depth k + 1) m p _ (omega arith) (omega arith) ∙ (reads_expr y at_else (if_then e₀ k) m (omega arith) (omega arith)
         ∙ (deep (depth k + 1) l q _ (omega arith) (omega arith) ∙ (reads_expr z a (if_else e₀ e₁ k) l (omega arith) h ∙ reads len (constructs l e₂) (ifp_over e₀ e₁ e₂ k rest))))))
-    reads_expr (a_sum {e = e} s) a k n d h = reads len n (as_operand_sum s k) ∙ (reads_sum s (ended a) k n d h ∙ reads len (constructs n e) (sum_over e k a))
+    reads_expr (a_sum {e = e} s) a k n d h =
+        reads len n (as_operand_sum s k) ∙ (reads_sum s (ended a) k n d h ∙ reads len (constructs n e) (sum_over e k a))
 
-    pub reads_sum : {e : Expr} {ts rest : List Token} → IsSum e ts rest → AfterProduct rest → (k : Context) (n : ℕ) → depth k + nesting e ≤ 32 → constructs n e ≤ 2000 →
+    pub reads_sum : {e : Expr} {ts rest : List Token} → IsSum e ts rest → AfterProduct rest → (k : Context) (n : ℕ) → depth k + nesting e ≤ 32 →
+        constructs n e ≤ 2000 →
         reading len (operand nothing nothing k) n ts ≡ reading len (after_sum e k) (constructs n e) rest
     reads_sum (a_product {e = e} p) a k n d h = reads_product p (ended a) nothing k n d h ∙ reads len (constructs n e) (product_over nothing e k a)
     reads_sum (and_product {p = q} {o = o} {a = x} {b = y} {us = us} s j p) a k n d h =
@@ -87,7 +90,8 @@ module _ (len : ℕ) where
         reads_sum s (joins j) k n (omega arith) (omega arith) ∙ (sum_goes_on x k (constructs n x) q us j (omega arith)
         ∙ (reads_product p (ended a) (left x o) k (constructs n x + 1) (omega arith) h ∙ reads len (constructs (constructs n x + 1) y) (product_over (left x o) y k a)))
 
-    pub reads_product : {e : Expr} {ts rest : List Token} → IsProduct e ts rest → AfterAtom rest → (S : Left) (k : Context) (n : ℕ) → depth k + nesting e ≤ 32 → constructs n e ≤ 2000 →
+    pub reads_product : {e : Expr} {ts rest : List Token} → IsProduct e ts rest → AfterAtom rest → (S : Left) (k : Context) (n : ℕ) →
+        depth k + nesting e ≤ 32 → constructs n e ≤ 2000 →
         reading len (operand S nothing k) n ts ≡ reading len (after_product S e k) (constructs n e) rest
     reads_product (an_atom m) a S k n d h = reads_atom m a S nothing k n d h
     reads_product (and_atom {p = q} {o = o} {a = x} {b = y} {us = us} p j m) a S k n d h =
@@ -95,7 +99,8 @@ module _ (len : ℕ) where
         reads_product p (joins j) S k n (omega arith) (omega arith) ∙ (product_goes_on S x k (constructs n x) q us j (omega arith)
         ∙ reads_atom m a S (left x o) k (constructs n x + 1) (omega arith) h)
 
-    pub reads_atom : {e : Expr} {ts rest : List Token} → IsAtom e ts rest → AfterAtom rest → (S P : Left) (k : Context) (n : ℕ) → depth k + nesting e ≤ 32 → constructs n e ≤ 2000 →
+    pub reads_atom : {e : Expr} {ts rest : List Token} → IsAtom e ts rest → AfterAtom rest → (S P : Left) (k : Context) (n : ℕ) →
+        depth k + nesting e ≤ 32 → constructs n e ≤ 2000 →
         reading len (operand S P k) n ts ≡ reading len (after_product S (apply P e) k) (constructs n e) rest
     reads_atom (a_number {n = x}) a S P k n d h = room (n + 1) x.place _ h
     reads_atom (a_name {x = x}) a S P k n d h = room (n + 1) x.place _ h ∙ reads len (n + 1) (name_over S P x k a)
@@ -108,7 +113,8 @@ module _ (len : ℕ) where
         let g = constructs_more n e in
         deep (depth k + 1) n q _ (omega arith) (omega arith) ∙ (reads_expr v at_close (bracket S P k) n (omega arith) h ∙ room (constructs n e) p _ h)
 
-    pub reads_arguments : {es : Arguments} {ts rest : List Token} → IsArguments es ts rest → AfterExpr rest → (S P : Left) (f : Ident) (k : Context) (n : ℕ) →
+    pub reads_arguments : {es : Arguments} {ts rest : List Token} → IsArguments es ts rest → AfterExpr rest →
+        (S P : Left) (f : Ident) (k : Context) (n : ℕ) →
         depth k + 1 + nestings es ≤ 32 → constructs_of n es ≤ 2000 →
         reading len (want (argument S P f none k)) n ts ≡ reading len (after_arguments S P f es k) (constructs_of n es) rest
     reads_arguments (an_argument e) a S P f k n d h = reads_expr e a (argument S P f none k) n d h
@@ -118,7 +124,8 @@ module _ (len : ℕ) where
         ∙ reads_expr v a (argument S P f (some es) k) (constructs_of n es) (omega arith) h)
 
   -- Heads: the names between the brackets, one declaration, all of them, the recipe.
-  after_names : {xs : Several Ident} {ts rest : List Token} → IsNames xs ts rest → (D : Option (Several Declaration)) (f : Ident) (n : ℕ) → size xs ≤ 8 →
+  after_names : {xs : Several Ident} {ts rest : List Token} → IsNames xs ts rest → (D : Option (Several Declaration)) (f : Ident) (n : ℕ) →
+      size xs ≤ 8 →
       reading len (head_name D f none) n ts ≡ reading len (head_next D f xs) n rest
   after_names a_parameter D f n h = refl
   after_names (and_parameter {xs = xs} {x = x} m) D f n h = after_names m D f n (omega arith) ∙ few (size xs + 1) x.place _ h
@@ -144,7 +151,8 @@ module _ (len : ℕ) where
   declarations_end (one_only (declare g xs e)) n p ts h = room n p _ h
   declarations_end (and_then ds (declare g xs e)) n p ts h = room n p _ h
 
-  reads_declarations : {ds : Several Declaration} {ts rest : List Token} → IsDeclarations ds ts rest → AfterExpr rest → size ds ≤ 32 → FitDeclarations ds → all_constructs ds ≤ 2000 →
+  reads_declarations : {ds : Several Declaration} {ts rest : List Token} → IsDeclarations ds ts rest → AfterExpr rest → size ds ≤ 32 →
+      FitDeclarations ds → all_constructs ds ≤ 2000 →
       reading len first_head 0 ts ≡ reading len (after_declarations ds) (all_constructs ds) rest
   reads_declarations (a_declaration (declared {r = r} {f = f} m e)) a s t h = reads_declaration r none f 0 m e a t.0 t.1 h
   reads_declarations (and_declaration {ds = ds} l (declared {r = r} {f = f} {e = e} {ts = ts} m v)) a s t h =

@@ -156,7 +156,8 @@ abbrev Answered : State → List Token → Type 0
 Answered q ts = (r : Recipe) × (answer q ts ≡ some r)
 
 product_closed : (S : Left) (e : Expr) (k : Context) → Answered (after_expr (apply S e) k) (closing k) → Answered (after_product S e k) (closing k)
-product_closed S e k (r, h) = let a = closing_follows k in (r, alike.answers (alike.product_over S e k (AfterProduct.ended a)) ∙ (alike.answers (alike.sum_over (apply S e) k a) ∙ h))
+product_closed S e k (r, h) =
+    let a = closing_follows k in (r, alike.answers (alike.product_over S e k (AfterProduct.ended a)) ∙ (alike.answers (alike.sum_over (apply S e) k a) ∙ h))
 
 number_closed : (k : Context) → ((e : Expr) → Answered (after_expr e k) (closing k)) → Answered (want k) (Number a_literal ∷ closing k)
 number_closed k h = product_closed nothing (num a_literal) k (h (num a_literal))
@@ -165,13 +166,15 @@ closed : (k : Context) (e : Expr) → Answered (after_expr e k) (closing k)
 unfolding closing
 closed (in_body D f xs) e = (recipe (with_one D (declare f xs e)) 0 (num a_literal), refl)
 closed (in_main D p) e = (recipe D p e, refl)
-closed (let_value x k) e = number_closed (let_body x e k) (λ e₂. let (r, h) = closed k (let_in x e e₂) in (r, alike.answers (alike.let_over x e e₂ k (closing k)) ∙ h))
+closed (let_value x k) e =
+    number_closed (let_body x e k) (λ e₂. let (r, h) = closed k (let_in x e e₂) in (r, alike.answers (alike.let_over x e e₂ k (closing k)) ∙ h))
 closed (let_body x e₁ k) e = let (r, h) = closed k (let_in x e₁ e) in (r, alike.answers (alike.let_over x e₁ e k (closing k)) ∙ h)
 closed (if_test k) e =
     let again : (e₁ e₂ : Expr) → Answered (after_expr e₂ (if_else e e₁ k)) (closing k) =
     λ e₁ e₂. let (r, h) = closed k (ifp e e₁ e₂) in (r, alike.answers (alike.ifp_over e e₁ e₂ k (closing k)) ∙ h) in
     number_closed (if_else e (num a_literal) k) (again (num a_literal))
-closed (if_then e₀ k) e = number_closed (if_else e₀ e k) (λ e₂. let (r, h) = closed k (ifp e₀ e e₂) in (r, alike.answers (alike.ifp_over e₀ e e₂ k (closing k)) ∙ h))
+closed (if_then e₀ k) e =
+    number_closed (if_else e₀ e k) (λ e₂. let (r, h) = closed k (ifp e₀ e e₂) in (r, alike.answers (alike.ifp_over e₀ e e₂ k (closing k)) ∙ h))
 closed (if_else e₀ e₁ k) e = let (r, h) = closed k (ifp e₀ e₁ e) in (r, alike.answers (alike.ifp_over e₀ e₁ e k (closing k)) ∙ h)
 closed (bracket S P k) e = product_closed S (apply P (group e)) k (closed k (apply S (apply P (group e))))
 closed (argument S P f es k) e =
@@ -185,16 +188,21 @@ pub productive : (q : State) → (q ≡ stuck) ⊎ ((ts : List Token) × Answere
 unfolding closing
 productive stuck = inl refl
 productive start = inr (TheWord 0 Let ∷ Name an_ident ∷ TheWord 0 Open ∷ Name an_ident ∷ TheWord 0 Close ∷ TheWord 0 Equals ∷ Number a_literal ∷ TheWord 0 In ∷ Number a_literal ∷ [], (_, refl))
-productive first_head = inr (Name an_ident ∷ TheWord 0 Open ∷ Name an_ident ∷ TheWord 0 Close ∷ TheWord 0 Equals ∷ Number a_literal ∷ TheWord 0 In ∷ Number a_literal ∷ [], (_, refl))
-productive (head_open D f) = inr (TheWord 0 Open ∷ Name an_ident ∷ TheWord 0 Close ∷ TheWord 0 Equals ∷ Number a_literal ∷ TheWord 0 In ∷ Number a_literal ∷ [], (_, refl))
-productive (head_name D f xs) = inr (Name an_ident ∷ TheWord 0 Close ∷ TheWord 0 Equals ∷ Number a_literal ∷ TheWord 0 In ∷ Number a_literal ∷ [], (_, refl))
+productive first_head =
+    inr (Name an_ident ∷ TheWord 0 Open ∷ Name an_ident ∷ TheWord 0 Close ∷ TheWord 0 Equals ∷ Number a_literal ∷ TheWord 0 In ∷ Number a_literal ∷ [], (_, refl))
+productive (head_open D f) =
+    inr (TheWord 0 Open ∷ Name an_ident ∷ TheWord 0 Close ∷ TheWord 0 Equals ∷ Number a_literal ∷ TheWord 0 In ∷ Number a_literal ∷ [], (_, refl))
+productive (head_name D f xs) =
+    inr (Name an_ident ∷ TheWord 0 Close ∷ TheWord 0 Equals ∷ Number a_literal ∷ TheWord 0 In ∷ Number a_literal ∷ [], (_, refl))
 productive (head_next D f xs) = inr (TheWord 0 Close ∷ TheWord 0 Equals ∷ Number a_literal ∷ TheWord 0 In ∷ Number a_literal ∷ [], (_, refl))
 productive (head_equals D f xs) = inr (TheWord 0 Equals ∷ Number a_literal ∷ TheWord 0 In ∷ Number a_literal ∷ [], (_, refl))
 productive (want k) = inr (Number a_literal ∷ closing k, wanted k)
 productive (let_name k) = inr (Name an_ident ∷ TheWord 0 Equals ∷ Number a_literal ∷ closing (let_value an_ident k), wanted (let_value an_ident k))
 productive (let_equals x k) = inr (TheWord 0 Equals ∷ Number a_literal ∷ closing (let_value x k), wanted (let_value x k))
-productive (operand S P k) = inr (Number a_literal ∷ closing k, product_closed S (apply P (num a_literal)) k (closed k (apply S (apply P (num a_literal)))))
-productive (weighed S P k) = inr (Number a_literal ∷ closing k, product_closed S (apply P (weigh a_literal)) k (closed k (apply S (apply P (weigh a_literal)))))
+productive (operand S P k) =
+    inr (Number a_literal ∷ closing k, product_closed S (apply P (num a_literal)) k (closed k (apply S (apply P (num a_literal)))))
+productive (weighed S P k) =
+    inr (Number a_literal ∷ closing k, product_closed S (apply P (weigh a_literal)) k (closed k (apply S (apply P (weigh a_literal)))))
 productive (named S P x k) =
     let (r, h) = product_closed S (apply P (var x)) k (closed k (apply S (apply P (var x)))) in
     inr (closing k, (r, alike.answers (alike.name_over S P x k (AfterAtom.ended (AfterProduct.ended (closing_follows k)))) ∙ h))
@@ -267,7 +275,8 @@ only_stuck (after_sum e₁ k) n e = limit _ 14 _ (λ h. omega arith) e
 only_stuck (after_expr e₁ k) n e = limit _ 14 _ (λ h. omega arith) e
 
 abbrev Refuses : ℕ → State → List Token → ℕ → Type 0
-Refuses len q ts p = (us : List Token) × ((rest : List Token) × (ts ≡ us ++ rest) × (run q us ≡ stuck → ⊥) × Stops (run q us) rest × (p ≡ first_place len rest))
+Refuses len q ts p =
+    (us : List Token) × ((rest : List Token) × (ts ≡ us ++ rest) × (run q us ≡ stuck → ⊥) × Stops (run q us) rest × (p ≡ first_place len rest))
 
 refuses : (len : ℕ) (ts : List Token) (q : State) (n p : ℕ) → (q ≡ stuck → ⊥) → reading len q n ts ≡ wrong 5 p → Refuses len q ts p
 refuses len [] q n p h e = let u = sound.end_wrong len 5 p (finish q) e in ([], ([], refl, h, u.0, u.2))
@@ -283,7 +292,8 @@ at_rest : (us rest : List Token) → (run start us ≡ stuck → ⊥) → Stops 
 at_rest us [] h e = rw append-nil (at_text_end (cut_short us h e))
 at_rest us (t ∷ vs) h e = at_token us (first_stuck us t h e)
 
-pub refused_there : (len : ℕ) (ts : List Token) (p : ℕ) → reading len start 0 ts ≡ wrong 5 p → (rest : List Token) × RefusedAt ts rest × (p ≡ first_place len rest)
+pub refused_there : (len : ℕ) (ts : List Token) (p : ℕ) → reading len start 0 ts ≡ wrong 5 p →
+    (rest : List Token) × RefusedAt ts rest × (p ≡ first_place len rest)
 refused_there len ts p e =
     let r = refuses len ts start 0 p (λ s. cc) e in
     (r.1.0, subst (λ l. RefusedAt l r.1.0) (sym r.1.1) (at_rest r.0 r.1.0 r.1.2 r.1.3), r.1.4)

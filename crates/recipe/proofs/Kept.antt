@@ -132,11 +132,13 @@ more_constructs : (m : ℕ) (es : Option Arguments) (e : Expr) → constructs (w
 more_constructs m none e = refl
 more_constructs m (some es) e = refl
 
-more_fits : (D : Option (Several Declaration)) (f : Ident) (xs : Several Ident) (e : Expr) → FitAll D → size xs ≤ 8 → nesting e ≤ 32 → FitDeclarations (with_one D (declare f xs e))
+more_fits : (D : Option (Several Declaration)) (f : Ident) (xs : Several Ident) (e : Expr) → FitAll D → size xs ≤ 8 → nesting e ≤ 32 →
+    FitDeclarations (with_one D (declare f xs e))
 more_fits none f xs e a b c = (b, c)
 more_fits (some ds) f xs e a b c = (a, (b, c))
 
-more_all : (D : Option (Several Declaration)) (f : Ident) (xs : Several Ident) (e : Expr) → constructs (so_far D) e ≡ all_constructs (with_one D (declare f xs e))
+more_all : (D : Option (Several Declaration)) (f : Ident) (xs : Several Ident) (e : Expr) →
+    constructs (so_far D) e ≡ all_constructs (with_one D (declare f xs e))
 more_all none f xs e = refl
 more_all (some ds) f xs e = refl
 
@@ -144,7 +146,8 @@ more_size : {A : Type 0} (D : Option (Several A)) (d : A) → size_or_none D ≤
 more_size none d h = omega arith
 more_size (some ds) d h = omega arith
 
-expr_step : (e : Expr) (k : Context) (t : Token) (n : ℕ) → After e k n → Zero (judged (expr_on e k t) (with_operator t n)) → Keeps (expr_on e k t) (with_operator t n)
+expr_step : (e : Expr) (k : Context) (t : Token) (n : ℕ) → After e k n → Zero (judged (expr_on e k t) (with_operator t n)) →
+    Keeps (expr_on e k t) (with_operator t n)
 expr_step e (in_body D f xs) t n a =
     let P : State → Token → Type 0 = λ q u. Zero (judged q (with_operator u n)) → Keeps q (with_operator u n) in
     let l = with_one D (declare f xs e) in
@@ -187,11 +190,13 @@ expr_no_operator e (if_else e₀ e₁ k) z o = expr_no_operator (ifp e₀ e₁ e
 expr_no_operator e (bracket S P k) z o = refl
 expr_no_operator e (argument S P f es k) z o = refl
 
-times_never : (e : Expr) (k : Context) (z n : ℕ) (o : Op) → Zero (judged (expr_on e k (Operator z o)) (n + 1)) → Keeps (expr_on e k (Operator z o)) (n + 1)
+times_never : (e : Expr) (k : Context) (z n : ℕ) (o : Op) → Zero (judged (expr_on e k (Operator z o)) (n + 1)) →
+    Keeps (expr_on e k (Operator z o)) (n + 1)
 times_never e k z n o j =
     let h : Zero 5 = subst (λ q. Zero (judged q (n + 1))) (expr_no_operator e k z o) j in absurd (omega arith)
 
-sum_step : (e : Expr) (k : Context) (t : Token) (n : ℕ) → After e k n → Zero (judged (sum_on e k t) (with_operator t n)) → Keeps (sum_on e k t) (with_operator t n)
+sum_step : (e : Expr) (k : Context) (t : Token) (n : ℕ) → After e k n → Zero (judged (sum_on e k t) (with_operator t n)) →
+    Keeps (sum_on e k t) (with_operator t n)
 sum_step e k (Operator z Plus) n a j = ((a.0, omega (arith, a.1), a.1, tt), ap (λ c. c + 1) a.2)
 sum_step e k (Operator z Minus) n a j = ((a.0, omega (arith, a.1), a.1, tt), ap (λ c. c + 1) a.2)
 sum_step e k (Operator z Times) n a j = times_never e k z n Times j
@@ -201,7 +206,8 @@ sum_step e k (Name x) n a j = expr_step e k (Name x) n a j
 sum_step e k (TheWord z v) n a j = expr_step e k (TheWord z v) n a j
 sum_step e k (Bad z c) n a j = expr_step e k (Bad z c) n a j
 
-product_step : (S : Left) (e : Expr) (k : Context) (t : Token) (n : ℕ) → Keeps (after_product S e k) n → Zero (judged (product_on S e k t) (with_operator t n)) →
+product_step : (S : Left) (e : Expr) (k : Context) (t : Token) (n : ℕ) → Keeps (after_product S e k) n →
+    Zero (judged (product_on S e k t) (with_operator t n)) →
     Keeps (product_on S e k t) (with_operator t n)
 product_step S e k t n a = by t where
   A : After (apply S e) k n
@@ -217,10 +223,13 @@ product_step S e k t n a = by t where
   by (TheWord z v) j = sum_step (apply S e) k (TheWord z v) n A j
   by (Bad z c) j = sum_step (apply S e) k (Bad z c) n A j
 
-leaf : (S P : Left) (e : Expr) (k : Context) (n m : ℕ) → Operands S P k → nesting e ≡ 0 → constructs (lefts S P k) e ≡ m → n ≡ m → n ≤ 2000 → Keeps (after_product S (apply P e) k) n
-leaf S P e k n m a z c g h = (a.0, a.2, apply_nesting (depth k) P e a.3 (omega (arith, a.1, z)), g ∙ (sym c ∙ apply_constructs (with_left S (base k)) P e), h)
+leaf : (S P : Left) (e : Expr) (k : Context) (n m : ℕ) → Operands S P k → nesting e ≡ 0 → constructs (lefts S P k) e ≡ m → n ≡ m → n ≤ 2000 →
+    Keeps (after_product S (apply P e) k) n
+leaf S P e k n m a z c g h =
+    (a.0, a.2, apply_nesting (depth k) P e a.3 (omega (arith, a.1, z)), g ∙ (sym c ∙ apply_constructs (with_left S (base k)) P e), h)
 
-operand_step : (S P : Left) (k : Context) (t : Token) (n : ℕ) → Operands S P k → n ≡ lefts S P k → Zero (judged (operand_on S P k t) (with_operand t n)) →
+operand_step : (S P : Left) (k : Context) (t : Token) (n : ℕ) → Operands S P k → n ≡ lefts S P k →
+    Zero (judged (operand_on S P k t) (with_operand t n)) →
     Keeps (operand_on S P k t) (with_operand t n)
 operand_step S P k (Number x) n a g = λ j. leaf S P (num x) k (n + 1) _ a refl refl (ap (λ c. c + 1) g) (few (n + 1) j)
 operand_step S P k (Name x) n a g = λ j. (a, ap (λ c. c + 1) g, few (n + 1) j)
@@ -231,7 +240,8 @@ operand_step S P k (TheWord z v) n a g =
     (by_word Q _ _ Open (TheWord z v) (λ z' j. ((a.0, shallow (depth k + 1) n j, a.2, a.3), shallow (depth k + 1) n j, g)) (λ j. tt))
 operand_step S P k (Bad z c) n a g = λ j. tt
 
-weighed_step : (S P : Left) (k : Context) (t : Token) (n : ℕ) → Keeps (weighed S P k) n → Zero (judged (feed (weighed S P k) t) n) → Keeps (feed (weighed S P k) t) n
+weighed_step : (S P : Left) (k : Context) (t : Token) (n : ℕ) → Keeps (weighed S P k) n → Zero (judged (feed (weighed S P k) t) n) →
+    Keeps (feed (weighed S P k) t) n
 weighed_step S P k (Number x) n a j = leaf S P (weigh x) k n _ a.0 refl refl a.1 (few n j)
 weighed_step S P k (Name x) n a j = tt
 weighed_step S P k (Operator z o) n a j = tt
@@ -247,7 +257,8 @@ step (head_name D f xs) t n a = by_name (λ q u. Zero (judged q n) → Keeps q n
 step (head_next D f xs) t n a =
     let Q : State → Token → Type 0 = λ q u. Zero (judged q n) → Keeps q n in
     by_word Q _ _ Comma t (λ z j. a.0) (by_word Q _ _ Close t (λ z j. a) (λ j. tt))
-step (head_equals D f xs) t n a = by_word (λ q u. Zero (judged q n) → Keeps q n) _ _ Equals t (λ z j. ((a.0.0, a.0.1, a.1), omega arith, a.0.2)) (λ j. tt)
+step (head_equals D f xs) t n a =
+    by_word (λ q u. Zero (judged q n) → Keeps q n) _ _ Equals t (λ z j. ((a.0.0, a.0.1, a.1), omega arith, a.0.2)) (λ j. tt)
 step (want k) t n a =
     let Q : State → Token → Type 0 = λ q u. Zero (judged q (with_operand u n)) → Keeps q (with_operand u n) in
     by_word Q _ _ Let t (λ z j. (a.0, let_shallow (depth k) (n + 1) j, ap (λ c. c + 1) a.2))

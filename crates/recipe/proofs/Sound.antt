@@ -31,7 +31,8 @@ pub data LeftProduct : Left → List Token → List Token → Type 0 where
 pub data Opened : List Token → Context → List Token → Type 0 where
   o_body : {p q r : ℕ} {w ts us : List Token} {D : Option (Several Declaration)} {f : Ident} {xs : Several Ident} →
       Heads w D (Name f ∷ TheWord p Open ∷ ts) → IsNames xs ts (TheWord q Close ∷ TheWord r Equals ∷ us) → Opened w (in_body D f xs) us
-  o_main : {p q : ℕ} {us vs : List Token} {ds : Several Declaration} → IsDeclarations ds us (TheWord p In ∷ vs) → Opened (TheWord q Let ∷ us) (in_main ds p) vs
+  o_main : {p q : ℕ} {us vs : List Token} {ds : Several Declaration} → IsDeclarations ds us (TheWord p In ∷ vs) →
+      Opened (TheWord q Let ∷ us) (in_main ds p) vs
   o_let_value : {p q : ℕ} {w us : List Token} {k : Context} {x : Ident} →
       Opened w k (TheWord p Let ∷ Name x ∷ TheWord q Equals ∷ us) → Opened w (let_value x k) us
   o_let_body : {p q r : ℕ} {w us vs : List Token} {k : Context} {x : Ident} {e : Expr} →
@@ -55,7 +56,8 @@ pub data Reached : List Token → State → List Token → Type 0 where
   r_start : {w : List Token} → Reached w start w
   r_first : {p : ℕ} {us : List Token} → Reached (TheWord p Let ∷ us) first_head us
   r_open : {w us : List Token} {D : Option (Several Declaration)} {f : Ident} → Heads w D (Name f ∷ us) → Reached w (head_open D f) us
-  r_name : {p : ℕ} {w us : List Token} {D : Option (Several Declaration)} {f : Ident} → Heads w D (Name f ∷ TheWord p Open ∷ us) → Reached w (head_name D f none) us
+  r_name : {p : ℕ} {w us : List Token} {D : Option (Several Declaration)} {f : Ident} → Heads w D (Name f ∷ TheWord p Open ∷ us) →
+      Reached w (head_name D f none) us
   r_names : {p q : ℕ} {w us vs : List Token} {D : Option (Several Declaration)} {f : Ident} {xs : Several Ident} →
       Heads w D (Name f ∷ TheWord p Open ∷ us) → IsNames xs us (TheWord q Comma ∷ vs) → Reached w (head_name D f (some xs)) vs
   r_next : {p : ℕ} {w us vs : List Token} {D : Option (Several Declaration)} {f : Ident} {xs : Several Ident} →
@@ -110,7 +112,8 @@ module _ (P : State → Token → Type 0) (a b : State) where
   by_word w (TheWord z v) p q = picked z w v (eqb (code w) (code v)) refl (p z) q
   by_word w (Bad z c) p q = q
 
-pub by_name : (P : State → Token → Type 0) (f : Ident → State) (b : State) (t : Token) → ((x : Ident) → P (f x) (Name x)) → P b t → P (on_name t f b) t
+pub by_name : (P : State → Token → Type 0) (f : Ident → State) (b : State) (t : Token) → ((x : Ident) → P (f x) (Name x)) → P b t →
+    P (on_name t f b) t
 by_name P f b (Number n) p q = q
 by_name P f b (Name x) p q = p x
 by_name P f b (Operator z o) p q = q

@@ -237,7 +237,8 @@ of_frames r c p e k =
       | inr h ↦ never_refused (image r) c p h.2
     ]
 
-of_names : (r : Recipe) (c p : ℕ) → then (first_fault (recipe_faults r)) (λ _. then (recipe_frames r) (λ _. accepted (image r))) ≡ refused c p → Reads c → ⊥
+of_names : (r : Recipe) (c p : ℕ) → then (first_fault (recipe_faults r)) (λ _. then (recipe_frames r) (λ _. accepted (image r))) ≡ refused c p →
+    Reads c → ⊥
 of_names r c p e k =
     elim (then_refused (first_fault (recipe_faults r)) _ c p e) [
       | inl h ↦ no_other c k (inr (inr (inr (names_cause (recipe_faults r) c p (recipe_names r) h))))

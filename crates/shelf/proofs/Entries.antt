@@ -27,7 +27,8 @@ pub found_shown : (q : List ℕ) (es : List (Vec ℕ Global × Recipe)) →
 found_shown q [] = refl
 found_shown q (e ∷ es) = either (is_at (slice_cmp nat_cmp q) (vec_items e.0)) e.1 _ _ (found_shown q es)
 
-shown_at : (o : Ordering) (a b c : List (Vec ℕ Global × Recipe)) → map shown (match_ordering o a b c) ≡ match_ordering o (map shown a) (map shown b) (map shown c)
+shown_at : (o : Ordering) (a b c : List (Vec ℕ Global × Recipe)) →
+    map shown (match_ordering o a b c) ≡ match_ordering o (map shown a) (map shown b) (map shown c)
 shown_at Less a b c = refl
 shown_at Equal a b c = refl
 shown_at Greater a b c = refl

@@ -3,7 +3,28 @@ use Rattle.std.proofs.Common.{codes, [], ◌∷◌, ap, arith}
 use Rattle.std.proofs.lemmas.Slice.Eq.{text_from_reads}
 use Rattle.recipe.specs.Tokens.{name_token}
 use Rattle.lexer.proofs.Scans.{Unreserved, plain_name}
-use Rattle.lexer.proofs.word_or_name.Goals.{in_default-via-then-name-lt2, in_default-via-else-name-lt2+then-name-lt3+in-105+in_default-1, in_default-via-else-name-lt2+then-name-lt3+in_default-1, in_default-via-else-name-lt2+else-name-lt3+then-name-lt4+in-108+in-101+in_default-1, in_default-via-else-name-lt2+else-name-lt3+then-name-lt4+in-108+in_default-1, in_default-via-else-name-lt2+else-name-lt3+then-name-lt4+in-105+in-102+in_default-1, in_default-via-else-name-lt2+else-name-lt3+then-name-lt4+in-105+in_default-1, in_default-via-else-name-lt2+else-name-lt3+then-name-lt4+in-100+in-105+in_default-1, in_default-via-else-name-lt2+else-name-lt3+then-name-lt4+in-100+in_default-1, in_default-via-else-name-lt2+else-name-lt3+then-name-lt4+in_default-1, in_default-via-else-name-lt2+else-name-lt3+else-name-lt4+then-name-lt5+in-116+in-104+in-101+in_default-1, in_default-via-else-name-lt2+else-name-lt3+else-name-lt4+then-name-lt5+in-116+in-104+in_default-1, in_default-via-else-name-lt2+else-name-lt3+else-name-lt4+then-name-lt5+in-116+in_default-1, in_default-via-else-name-lt2+else-name-lt3+else-name-lt4+then-name-lt5+in-101+in-108+in-115+in_default-1, in_default-via-else-name-lt2+else-name-lt3+else-name-lt4+then-name-lt5+in-101+in-108+in_default-1, in_default-via-else-name-lt2+else-name-lt3+else-name-lt4+then-name-lt5+in-101+in_default-1, in_default-via-else-name-lt2+else-name-lt3+else-name-lt4+then-name-lt5+in_default-1, in_default-via-else-name-lt2+else-name-lt3+else-name-lt4+else-name-lt5+then-name-lt6+in-119+in-101+in-105+in-103+in_default-1, in_default-via-else-name-lt2+else-name-lt3+else-name-lt4+else-name-lt5+then-name-lt6+in-119+in-101+in-105+in_default-1, in_default-via-else-name-lt2+else-name-lt3+else-name-lt4+else-name-lt5+then-name-lt6+in-119+in-101+in_default-1, in_default-via-else-name-lt2+else-name-lt3+else-name-lt4+else-name-lt5+then-name-lt6+in-119+in_default-1, in_default-via-else-name-lt2+else-name-lt3+else-name-lt4+else-name-lt5+then-name-lt6+in_default-1, in_default-via-else-name-lt2+else-name-lt3+else-name-lt4+else-name-lt5+else-name-lt6}
+use Rattle.lexer.proofs.word_or_name.Goals.{in_default-via-then-name-lt2, in_default-via-else-name-lt2+then-name-lt3+in-105+in_default-1}
+use Rattle.lexer.proofs.word_or_name.Goals.{in_default-via-else-name-lt2+then-name-lt3+in_default-1}
+use Rattle.lexer.proofs.word_or_name.Goals.{in_default-via-else-name-lt2+else-name-lt3+then-name-lt4+in-108+in-101+in_default-1}
+use Rattle.lexer.proofs.word_or_name.Goals.{in_default-via-else-name-lt2+else-name-lt3+then-name-lt4+in-108+in_default-1}
+use Rattle.lexer.proofs.word_or_name.Goals.{in_default-via-else-name-lt2+else-name-lt3+then-name-lt4+in-105+in-102+in_default-1}
+use Rattle.lexer.proofs.word_or_name.Goals.{in_default-via-else-name-lt2+else-name-lt3+then-name-lt4+in-105+in_default-1}
+use Rattle.lexer.proofs.word_or_name.Goals.{in_default-via-else-name-lt2+else-name-lt3+then-name-lt4+in-100+in-105+in_default-1}
+use Rattle.lexer.proofs.word_or_name.Goals.{in_default-via-else-name-lt2+else-name-lt3+then-name-lt4+in-100+in_default-1}
+use Rattle.lexer.proofs.word_or_name.Goals.{in_default-via-else-name-lt2+else-name-lt3+then-name-lt4+in_default-1}
+use Rattle.lexer.proofs.word_or_name.Goals.{in_default-via-else-name-lt2+else-name-lt3+else-name-lt4+then-name-lt5+in-116+in-104+in-101+in_default-1}
+use Rattle.lexer.proofs.word_or_name.Goals.{in_default-via-else-name-lt2+else-name-lt3+else-name-lt4+then-name-lt5+in-116+in-104+in_default-1}
+use Rattle.lexer.proofs.word_or_name.Goals.{in_default-via-else-name-lt2+else-name-lt3+else-name-lt4+then-name-lt5+in-116+in_default-1}
+use Rattle.lexer.proofs.word_or_name.Goals.{in_default-via-else-name-lt2+else-name-lt3+else-name-lt4+then-name-lt5+in-101+in-108+in-115+in_default-1}
+use Rattle.lexer.proofs.word_or_name.Goals.{in_default-via-else-name-lt2+else-name-lt3+else-name-lt4+then-name-lt5+in-101+in-108+in_default-1}
+use Rattle.lexer.proofs.word_or_name.Goals.{in_default-via-else-name-lt2+else-name-lt3+else-name-lt4+then-name-lt5+in-101+in_default-1}
+use Rattle.lexer.proofs.word_or_name.Goals.{in_default-via-else-name-lt2+else-name-lt3+else-name-lt4+then-name-lt5+in_default-1}
+use Rattle.lexer.proofs.word_or_name.Goals.{in_default-via-else-name-lt2+else-name-lt3+else-name-lt4+else-name-lt5+then-name-lt6+in-119+in-101+in-105+in-103+in_default-1}
+use Rattle.lexer.proofs.word_or_name.Goals.{in_default-via-else-name-lt2+else-name-lt3+else-name-lt4+else-name-lt5+then-name-lt6+in-119+in-101+in-105+in_default-1}
+use Rattle.lexer.proofs.word_or_name.Goals.{in_default-via-else-name-lt2+else-name-lt3+else-name-lt4+else-name-lt5+then-name-lt6+in-119+in-101+in_default-1}
+use Rattle.lexer.proofs.word_or_name.Goals.{in_default-via-else-name-lt2+else-name-lt3+else-name-lt4+else-name-lt5+then-name-lt6+in-119+in_default-1}
+use Rattle.lexer.proofs.word_or_name.Goals.{in_default-via-else-name-lt2+else-name-lt3+else-name-lt4+else-name-lt5+then-name-lt6+in_default-1}
+use Rattle.lexer.proofs.word_or_name.Goals.{in_default-via-else-name-lt2+else-name-lt3+else-name-lt4+else-name-lt5+else-name-lt6}
 use Rattle.lexer.proofs.word_or_name.Goals as goal
 
 pub returns-in-weigh : goal.returns-in-weigh
@@ -14,28 +35,28 @@ returns-in-weigh c =
 pub returns-in_default : goal.returns-in_default
 returns-in_default c =
     let u : Unreserved c.args.name.now = elim c.in_default.branch [
-      | in_default-via-then-name-lt2 w ↦ record { not_let = λ n g h i. omega (arith, ltb-true, ltb-false); not_in = λ n g h. omega (arith, ltb-true, ltb-false); not_ifp = λ n g h i. omega (arith, ltb-true, ltb-false); not_then = λ n g h i j. omega (arith, ltb-true, ltb-false); not_else = λ n g h i j. omega (arith, ltb-true, ltb-false); not_div = λ n g h i. omega (arith, ltb-true, ltb-false); not_weigh = λ n g h i j k. omega (arith, ltb-true, ltb-false) }
-      | in_default-via-else-name-lt2+then-name-lt3+in-105+in_default-1 w ↦ record { not_let = λ n g h i. omega (arith, ltb-true, ltb-false); not_in = λ n g h. omega (arith, ltb-true, ltb-false); not_ifp = λ n g h i. omega (arith, ltb-true, ltb-false); not_then = λ n g h i j. omega (arith, ltb-true, ltb-false); not_else = λ n g h i j. omega (arith, ltb-true, ltb-false); not_div = λ n g h i. omega (arith, ltb-true, ltb-false); not_weigh = λ n g h i j k. omega (arith, ltb-true, ltb-false) }
-      | in_default-via-else-name-lt2+then-name-lt3+in_default-1 w ↦ record { not_let = λ n g h i. omega (arith, ltb-true, ltb-false); not_in = λ n g h. omega (arith, ltb-true, ltb-false); not_ifp = λ n g h i. omega (arith, ltb-true, ltb-false); not_then = λ n g h i j. omega (arith, ltb-true, ltb-false); not_else = λ n g h i j. omega (arith, ltb-true, ltb-false); not_div = λ n g h i. omega (arith, ltb-true, ltb-false); not_weigh = λ n g h i j k. omega (arith, ltb-true, ltb-false) }
-      | in_default-via-else-name-lt2+else-name-lt3+then-name-lt4+in-108+in-101+in_default-1 w ↦ record { not_let = λ n g h i. omega (arith, ltb-true, ltb-false); not_in = λ n g h. omega (arith, ltb-true, ltb-false); not_ifp = λ n g h i. omega (arith, ltb-true, ltb-false); not_then = λ n g h i j. omega (arith, ltb-true, ltb-false); not_else = λ n g h i j. omega (arith, ltb-true, ltb-false); not_div = λ n g h i. omega (arith, ltb-true, ltb-false); not_weigh = λ n g h i j k. omega (arith, ltb-true, ltb-false) }
-      | in_default-via-else-name-lt2+else-name-lt3+then-name-lt4+in-108+in_default-1 w ↦ record { not_let = λ n g h i. omega (arith, ltb-true, ltb-false); not_in = λ n g h. omega (arith, ltb-true, ltb-false); not_ifp = λ n g h i. omega (arith, ltb-true, ltb-false); not_then = λ n g h i j. omega (arith, ltb-true, ltb-false); not_else = λ n g h i j. omega (arith, ltb-true, ltb-false); not_div = λ n g h i. omega (arith, ltb-true, ltb-false); not_weigh = λ n g h i j k. omega (arith, ltb-true, ltb-false) }
-      | in_default-via-else-name-lt2+else-name-lt3+then-name-lt4+in-105+in-102+in_default-1 w ↦ record { not_let = λ n g h i. omega (arith, ltb-true, ltb-false); not_in = λ n g h. omega (arith, ltb-true, ltb-false); not_ifp = λ n g h i. omega (arith, ltb-true, ltb-false); not_then = λ n g h i j. omega (arith, ltb-true, ltb-false); not_else = λ n g h i j. omega (arith, ltb-true, ltb-false); not_div = λ n g h i. omega (arith, ltb-true, ltb-false); not_weigh = λ n g h i j k. omega (arith, ltb-true, ltb-false) }
-      | in_default-via-else-name-lt2+else-name-lt3+then-name-lt4+in-105+in_default-1 w ↦ record { not_let = λ n g h i. omega (arith, ltb-true, ltb-false); not_in = λ n g h. omega (arith, ltb-true, ltb-false); not_ifp = λ n g h i. omega (arith, ltb-true, ltb-false); not_then = λ n g h i j. omega (arith, ltb-true, ltb-false); not_else = λ n g h i j. omega (arith, ltb-true, ltb-false); not_div = λ n g h i. omega (arith, ltb-true, ltb-false); not_weigh = λ n g h i j k. omega (arith, ltb-true, ltb-false) }
-      | in_default-via-else-name-lt2+else-name-lt3+then-name-lt4+in-100+in-105+in_default-1 w ↦ record { not_let = λ n g h i. omega (arith, ltb-true, ltb-false); not_in = λ n g h. omega (arith, ltb-true, ltb-false); not_ifp = λ n g h i. omega (arith, ltb-true, ltb-false); not_then = λ n g h i j. omega (arith, ltb-true, ltb-false); not_else = λ n g h i j. omega (arith, ltb-true, ltb-false); not_div = λ n g h i. omega (arith, ltb-true, ltb-false); not_weigh = λ n g h i j k. omega (arith, ltb-true, ltb-false) }
-      | in_default-via-else-name-lt2+else-name-lt3+then-name-lt4+in-100+in_default-1 w ↦ record { not_let = λ n g h i. omega (arith, ltb-true, ltb-false); not_in = λ n g h. omega (arith, ltb-true, ltb-false); not_ifp = λ n g h i. omega (arith, ltb-true, ltb-false); not_then = λ n g h i j. omega (arith, ltb-true, ltb-false); not_else = λ n g h i j. omega (arith, ltb-true, ltb-false); not_div = λ n g h i. omega (arith, ltb-true, ltb-false); not_weigh = λ n g h i j k. omega (arith, ltb-true, ltb-false) }
-      | in_default-via-else-name-lt2+else-name-lt3+then-name-lt4+in_default-1 w ↦ record { not_let = λ n g h i. omega (arith, ltb-true, ltb-false); not_in = λ n g h. omega (arith, ltb-true, ltb-false); not_ifp = λ n g h i. omega (arith, ltb-true, ltb-false); not_then = λ n g h i j. omega (arith, ltb-true, ltb-false); not_else = λ n g h i j. omega (arith, ltb-true, ltb-false); not_div = λ n g h i. omega (arith, ltb-true, ltb-false); not_weigh = λ n g h i j k. omega (arith, ltb-true, ltb-false) }
-      | in_default-via-else-name-lt2+else-name-lt3+else-name-lt4+then-name-lt5+in-116+in-104+in-101+in_default-1 w ↦ record { not_let = λ n g h i. omega (arith, ltb-true, ltb-false); not_in = λ n g h. omega (arith, ltb-true, ltb-false); not_ifp = λ n g h i. omega (arith, ltb-true, ltb-false); not_then = λ n g h i j. omega (arith, ltb-true, ltb-false); not_else = λ n g h i j. omega (arith, ltb-true, ltb-false); not_div = λ n g h i. omega (arith, ltb-true, ltb-false); not_weigh = λ n g h i j k. omega (arith, ltb-true, ltb-false) }
-      | in_default-via-else-name-lt2+else-name-lt3+else-name-lt4+then-name-lt5+in-116+in-104+in_default-1 w ↦ record { not_let = λ n g h i. omega (arith, ltb-true, ltb-false); not_in = λ n g h. omega (arith, ltb-true, ltb-false); not_ifp = λ n g h i. omega (arith, ltb-true, ltb-false); not_then = λ n g h i j. omega (arith, ltb-true, ltb-false); not_else = λ n g h i j. omega (arith, ltb-true, ltb-false); not_div = λ n g h i. omega (arith, ltb-true, ltb-false); not_weigh = λ n g h i j k. omega (arith, ltb-true, ltb-false) }
-      | in_default-via-else-name-lt2+else-name-lt3+else-name-lt4+then-name-lt5+in-116+in_default-1 w ↦ record { not_let = λ n g h i. omega (arith, ltb-true, ltb-false); not_in = λ n g h. omega (arith, ltb-true, ltb-false); not_ifp = λ n g h i. omega (arith, ltb-true, ltb-false); not_then = λ n g h i j. omega (arith, ltb-true, ltb-false); not_else = λ n g h i j. omega (arith, ltb-true, ltb-false); not_div = λ n g h i. omega (arith, ltb-true, ltb-false); not_weigh = λ n g h i j k. omega (arith, ltb-true, ltb-false) }
-      | in_default-via-else-name-lt2+else-name-lt3+else-name-lt4+then-name-lt5+in-101+in-108+in-115+in_default-1 w ↦ record { not_let = λ n g h i. omega (arith, ltb-true, ltb-false); not_in = λ n g h. omega (arith, ltb-true, ltb-false); not_ifp = λ n g h i. omega (arith, ltb-true, ltb-false); not_then = λ n g h i j. omega (arith, ltb-true, ltb-false); not_else = λ n g h i j. omega (arith, ltb-true, ltb-false); not_div = λ n g h i. omega (arith, ltb-true, ltb-false); not_weigh = λ n g h i j k. omega (arith, ltb-true, ltb-false) }
-      | in_default-via-else-name-lt2+else-name-lt3+else-name-lt4+then-name-lt5+in-101+in-108+in_default-1 w ↦ record { not_let = λ n g h i. omega (arith, ltb-true, ltb-false); not_in = λ n g h. omega (arith, ltb-true, ltb-false); not_ifp = λ n g h i. omega (arith, ltb-true, ltb-false); not_then = λ n g h i j. omega (arith, ltb-true, ltb-false); not_else = λ n g h i j. omega (arith, ltb-true, ltb-false); not_div = λ n g h i. omega (arith, ltb-true, ltb-false); not_weigh = λ n g h i j k. omega (arith, ltb-true, ltb-false) }
-      | in_default-via-else-name-lt2+else-name-lt3+else-name-lt4+then-name-lt5+in-101+in_default-1 w ↦ record { not_let = λ n g h i. omega (arith, ltb-true, ltb-false); not_in = λ n g h. omega (arith, ltb-true, ltb-false); not_ifp = λ n g h i. omega (arith, ltb-true, ltb-false); not_then = λ n g h i j. omega (arith, ltb-true, ltb-false); not_else = λ n g h i j. omega (arith, ltb-true, ltb-false); not_div = λ n g h i. omega (arith, ltb-true, ltb-false); not_weigh = λ n g h i j k. omega (arith, ltb-true, ltb-false) }
-      | in_default-via-else-name-lt2+else-name-lt3+else-name-lt4+then-name-lt5+in_default-1 w ↦ record { not_let = λ n g h i. omega (arith, ltb-true, ltb-false); not_in = λ n g h. omega (arith, ltb-true, ltb-false); not_ifp = λ n g h i. omega (arith, ltb-true, ltb-false); not_then = λ n g h i j. omega (arith, ltb-true, ltb-false); not_else = λ n g h i j. omega (arith, ltb-true, ltb-false); not_div = λ n g h i. omega (arith, ltb-true, ltb-false); not_weigh = λ n g h i j k. omega (arith, ltb-true, ltb-false) }
-      | in_default-via-else-name-lt2+else-name-lt3+else-name-lt4+else-name-lt5+then-name-lt6+in-119+in-101+in-105+in-103+in_default-1 w ↦ record { not_let = λ n g h i. omega (arith, ltb-true, ltb-false); not_in = λ n g h. omega (arith, ltb-true, ltb-false); not_ifp = λ n g h i. omega (arith, ltb-true, ltb-false); not_then = λ n g h i j. omega (arith, ltb-true, ltb-false); not_else = λ n g h i j. omega (arith, ltb-true, ltb-false); not_div = λ n g h i. omega (arith, ltb-true, ltb-false); not_weigh = λ n g h i j k. omega (arith, ltb-true, ltb-false) }
-      | in_default-via-else-name-lt2+else-name-lt3+else-name-lt4+else-name-lt5+then-name-lt6+in-119+in-101+in-105+in_default-1 w ↦ record { not_let = λ n g h i. omega (arith, ltb-true, ltb-false); not_in = λ n g h. omega (arith, ltb-true, ltb-false); not_ifp = λ n g h i. omega (arith, ltb-true, ltb-false); not_then = λ n g h i j. omega (arith, ltb-true, ltb-false); not_else = λ n g h i j. omega (arith, ltb-true, ltb-false); not_div = λ n g h i. omega (arith, ltb-true, ltb-false); not_weigh = λ n g h i j k. omega (arith, ltb-true, ltb-false) }
-      | in_default-via-else-name-lt2+else-name-lt3+else-name-lt4+else-name-lt5+then-name-lt6+in-119+in-101+in_default-1 w ↦ record { not_let = λ n g h i. omega (arith, ltb-true, ltb-false); not_in = λ n g h. omega (arith, ltb-true, ltb-false); not_ifp = λ n g h i. omega (arith, ltb-true, ltb-false); not_then = λ n g h i j. omega (arith, ltb-true, ltb-false); not_else = λ n g h i j. omega (arith, ltb-true, ltb-false); not_div = λ n g h i. omega (arith, ltb-true, ltb-false); not_weigh = λ n g h i j k. omega (arith, ltb-true, ltb-false) }
-      | in_default-via-else-name-lt2+else-name-lt3+else-name-lt4+else-name-lt5+then-name-lt6+in-119+in_default-1 w ↦ record { not_let = λ n g h i. omega (arith, ltb-true, ltb-false); not_in = λ n g h. omega (arith, ltb-true, ltb-false); not_ifp = λ n g h i. omega (arith, ltb-true, ltb-false); not_then = λ n g h i j. omega (arith, ltb-true, ltb-false); not_else = λ n g h i j. omega (arith, ltb-true, ltb-false); not_div = λ n g h i. omega (arith, ltb-true, ltb-false); not_weigh = λ n g h i j k. omega (arith, ltb-true, ltb-false) }
-      | in_default-via-else-name-lt2+else-name-lt3+else-name-lt4+else-name-lt5+then-name-lt6+in_default-1 w ↦ record { not_let = λ n g h i. omega (arith, ltb-true, ltb-false); not_in = λ n g h. omega (arith, ltb-true, ltb-false); not_ifp = λ n g h i. omega (arith, ltb-true, ltb-false); not_then = λ n g h i j. omega (arith, ltb-true, ltb-false); not_else = λ n g h i j. omega (arith, ltb-true, ltb-false); not_div = λ n g h i. omega (arith, ltb-true, ltb-false); not_weigh = λ n g h i j k. omega (arith, ltb-true, ltb-false) }
-      | in_default-via-else-name-lt2+else-name-lt3+else-name-lt4+else-name-lt5+else-name-lt6 w ↦ record { not_let = λ n g h i. omega (arith, ltb-true, ltb-false); not_in = λ n g h. omega (arith, ltb-true, ltb-false); not_ifp = λ n g h i. omega (arith, ltb-true, ltb-false); not_then = λ n g h i j. omega (arith, ltb-true, ltb-false); not_else = λ n g h i j. omega (arith, ltb-true, ltb-false); not_div = λ n g h i. omega (arith, ltb-true, ltb-false); not_weigh = λ n g h i j k. omega (arith, ltb-true, ltb-false) }
+      | in_default-via-then-name-lt2 w ↦ grind (arith, ltb-true, ltb-false)
+      | in_default-via-else-name-lt2+then-name-lt3+in-105+in_default-1 w ↦ grind (arith, ltb-true, ltb-false)
+      | in_default-via-else-name-lt2+then-name-lt3+in_default-1 w ↦ grind (arith, ltb-true, ltb-false)
+      | in_default-via-else-name-lt2+else-name-lt3+then-name-lt4+in-108+in-101+in_default-1 w ↦ grind (arith, ltb-true, ltb-false)
+      | in_default-via-else-name-lt2+else-name-lt3+then-name-lt4+in-108+in_default-1 w ↦ grind (arith, ltb-true, ltb-false)
+      | in_default-via-else-name-lt2+else-name-lt3+then-name-lt4+in-105+in-102+in_default-1 w ↦ grind (arith, ltb-true, ltb-false)
+      | in_default-via-else-name-lt2+else-name-lt3+then-name-lt4+in-105+in_default-1 w ↦ grind (arith, ltb-true, ltb-false)
+      | in_default-via-else-name-lt2+else-name-lt3+then-name-lt4+in-100+in-105+in_default-1 w ↦ grind (arith, ltb-true, ltb-false)
+      | in_default-via-else-name-lt2+else-name-lt3+then-name-lt4+in-100+in_default-1 w ↦ grind (arith, ltb-true, ltb-false)
+      | in_default-via-else-name-lt2+else-name-lt3+then-name-lt4+in_default-1 w ↦ grind (arith, ltb-true, ltb-false)
+      | in_default-via-else-name-lt2+else-name-lt3+else-name-lt4+then-name-lt5+in-116+in-104+in-101+in_default-1 w ↦ grind (arith, ltb-true, ltb-false)
+      | in_default-via-else-name-lt2+else-name-lt3+else-name-lt4+then-name-lt5+in-116+in-104+in_default-1 w ↦ grind (arith, ltb-true, ltb-false)
+      | in_default-via-else-name-lt2+else-name-lt3+else-name-lt4+then-name-lt5+in-116+in_default-1 w ↦ grind (arith, ltb-true, ltb-false)
+      | in_default-via-else-name-lt2+else-name-lt3+else-name-lt4+then-name-lt5+in-101+in-108+in-115+in_default-1 w ↦ grind (arith, ltb-true, ltb-false)
+      | in_default-via-else-name-lt2+else-name-lt3+else-name-lt4+then-name-lt5+in-101+in-108+in_default-1 w ↦ grind (arith, ltb-true, ltb-false)
+      | in_default-via-else-name-lt2+else-name-lt3+else-name-lt4+then-name-lt5+in-101+in_default-1 w ↦ grind (arith, ltb-true, ltb-false)
+      | in_default-via-else-name-lt2+else-name-lt3+else-name-lt4+then-name-lt5+in_default-1 w ↦ grind (arith, ltb-true, ltb-false)
+      | in_default-via-else-name-lt2+else-name-lt3+else-name-lt4+else-name-lt5+then-name-lt6+in-119+in-101+in-105+in-103+in_default-1 w ↦ grind (arith, ltb-true, ltb-false)
+      | in_default-via-else-name-lt2+else-name-lt3+else-name-lt4+else-name-lt5+then-name-lt6+in-119+in-101+in-105+in_default-1 w ↦ grind (arith, ltb-true, ltb-false)
+      | in_default-via-else-name-lt2+else-name-lt3+else-name-lt4+else-name-lt5+then-name-lt6+in-119+in-101+in_default-1 w ↦ grind (arith, ltb-true, ltb-false)
+      | in_default-via-else-name-lt2+else-name-lt3+else-name-lt4+else-name-lt5+then-name-lt6+in-119+in_default-1 w ↦ grind (arith, ltb-true, ltb-false)
+      | in_default-via-else-name-lt2+else-name-lt3+else-name-lt4+else-name-lt5+then-name-lt6+in_default-1 w ↦ grind (arith, ltb-true, ltb-false)
+      | in_default-via-else-name-lt2+else-name-lt3+else-name-lt4+else-name-lt5+else-name-lt6 w ↦ grind (arith, ltb-true, ltb-false)
     ] in
     plain_name c.args.name.now u c.if-name-le-LONGEST_NAME.true
