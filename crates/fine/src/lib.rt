@@ -2,41 +2,32 @@
 #![tactic(auto)]
 
 ghost use Rattle.std.specs.Prelude.{◌≡◌};
-ghost use Rattle.std.specs.Float.Ieee.{eq};
-ghost use Rattle.fine.specs.OfFine.{naught, is_value, above_zero, counted, answered, divided, fine_rules};
+ghost use Rattle.fine.specs.OfFine.{is_value, counted, answered, divided, fine_rules};
 ghost use Rattle.fine.specs.Laws.{fine_lawful};
 
 use arithmetic::{Arithmetic, ArithmeticFault};
 use std::num::saturating_f64_to_i32;
 use weight::Weight;
 
+// The largest magnitude of a value, in grams.
+const LARGEST: f64 = 2_147_483_647.0;
+
 // A place of 64 bits, with no bound in its type: each rule tests the bound itself. What is no value (a NaN, an
 // infinity, a larger magnitude) counts as 0.
-#[derive(Clone, Copy)]
+#[derive(Clone, Copy, PartialEq, Debug)]
 pub struct Fine {
     pub grams: f64,
 }
 
 // False at a NaN, since every comparison with one is.
+#[tactic(auto, using(crate::proofs::Constants::largest_is))]
 fn within(x: f64) -> bool
     ensures { result ≡ is_value x }
 {
-    x.abs() <= 2147483647.0
+    x.abs() <= LARGEST
 }
 
-// True of +0.0 and of -0.0.
-fn is_zero(x: f64) -> bool
-    ensures { result ≡ eq x naught }
-{
-    x == 0.0
-}
-
-fn is_above_zero(x: f64) -> bool
-    ensures { result ≡ above_zero x }
-{
-    x > 0.0
-}
-
+#[tactic(auto, using(crate::proofs::Constants::naught_is))]
 impl Fine {
     // What the place counts as.
     fn number(self) -> f64
@@ -56,11 +47,11 @@ impl Fine {
         }
     }
 
-    // A divisor of 0 is judged before the range.
+    // A divisor of 0, +0.0 or -0.0, is judged before the range.
     fn quotient(number: f64, divisor: f64) -> Result<Fine, ArithmeticFault>
         ensures { result ≡ divided number divisor }
     {
-        if is_zero(divisor) {
+        if divisor == 0.0 {
             Err(ArithmeticFault::DivisorZero)
         } else {
             Fine::of(number / divisor)
@@ -95,8 +86,9 @@ impl Arithmetic for Fine {
         Fine::quotient(self.number(), other.number())
     }
 
+    #[tactic(auto, using(crate::proofs::Constants::naught_is))]
     fn positive(self) -> bool {
-        is_above_zero(self.number())
+        self.number() > 0.0
     }
 
     fn shown(self) -> i32 {

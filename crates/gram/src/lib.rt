@@ -9,7 +9,7 @@ use arithmetic::{Arithmetic, ArithmeticFault};
 use weight::Weight;
 
 // A place of 32 bits. The one number that is no value, -2,147,483,648, counts as 0.
-#[derive(Clone, Copy)]
+#[derive(Clone, Copy, PartialEq, Eq, Debug)]
 pub struct Gram {
     pub grams: i32,
 }

@@ -33,6 +33,9 @@ wrapped_wraps (negsuc n) =
     let c = read (4294967295 - n % 4294967296) h in
     made_of _ _ (in_range _ h) (n / 4294967296 + 1 + c.0, c.1, omega (arith, ints, c.2))
 
+pub congruent : (z r : ℤ) → r ≡ int_wrap w32 z → Wraps z r
+congruent z r e = rw e (wrapped_wraps z)
+
 -- ---- a quotient is no larger than what is divided, so at most 2^31
 size_neg : (n : ℕ) → nat_abs (neg_ℤ (pos n)) ≡ n
 size_neg zero = refl

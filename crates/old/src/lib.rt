@@ -1,8 +1,6 @@
 // Old: whole grams in 32 bits of two's complement, results taken modulo 2^32.
 #![tactic(auto)]
 
-mod modulo;
-
 ghost use Rattle.std.specs.Prelude.{◌≡◌, ◌+ℤ◌, ◌-ℤ◌, ◌*ℤ◌, IfOk, int_div};
 ghost use Rattle.old.specs.OfOld.{old_rules};
 ghost use Rattle.old.specs.Modulo.{Wraps};
@@ -12,13 +10,14 @@ use arithmetic::{Arithmetic, ArithmeticFault};
 use weight::Weight;
 
 // A place of 32 bits; every number in it is a value.
-#[derive(Clone, Copy)]
+#[derive(Clone, Copy, PartialEq, Eq, Debug)]
 pub struct Old {
     pub grams: i32,
 }
 
 // Beside the rule, each operation promises that its answer is the one number in range that is congruent modulo 2^32
 // to the exact sum, difference or product, or to the quotient with its fraction dropped.
+#[tactic(auto, using(std::proofs::lemmas::Int::wraps))]
 impl Arithmetic for Old {
     ghost rules = { old_rules };
 
@@ -35,7 +34,7 @@ impl Arithmetic for Old {
         ensures congruent { IfOk result (λ v. Wraps (self.grams +ℤ other.grams) v.grams) }
     {
         Ok(Old {
-            grams: modulo::sum(self.grams, other.grams),
+            grams: self.grams.wrapping_add(other.grams),
         })
     }
 
@@ -44,7 +43,7 @@ impl Arithmetic for Old {
         ensures congruent { IfOk result (λ v. Wraps (self.grams -ℤ other.grams) v.grams) }
     {
         Ok(Old {
-            grams: modulo::difference(self.grams, other.grams),
+            grams: self.grams.wrapping_sub(other.grams),
         })
     }
 
@@ -53,7 +52,7 @@ impl Arithmetic for Old {
         ensures congruent { IfOk result (λ v. Wraps (self.grams *ℤ other.grams) v.grams) }
     {
         Ok(Old {
-            grams: modulo::product(self.grams, other.grams),
+            grams: self.grams.wrapping_mul(other.grams),
         })
     }
 
@@ -65,7 +64,7 @@ impl Arithmetic for Old {
             return Err(ArithmeticFault::DivisorZero);
         }
         Ok(Old {
-            grams: modulo::quotient(self.grams, other.grams),
+            grams: self.grams.wrapping_div(other.grams),
         })
     }
 

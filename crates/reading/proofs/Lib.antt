@@ -1,4 +1,3 @@
 mod Layers
 mod Quotients
 mod Rounds
-mod Weighed

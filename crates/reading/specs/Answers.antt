@@ -1,5 +1,5 @@
 -- What a source of readings answers: for each channel a weight in whole grams, or a fault.
-use Rattle.std.specs.Prelude.{◌≡◌, ℕ, ◌≤◌, Bool, false, cond, ◌&&◌, ℤ, Ok, Err, Result, nat_le, unsigned_abs}
+use Rattle.std.specs.Prelude.{◌≡◌, ℕ, ◌-◌, ◌≤◌, Bool, false, cond, ◌&&◌, List, ℤ, Some, None, Ok, Err, Option, Result, nat_le, slice_get, unsigned_abs}
 use Rattle.weight.specs.declared.weight.Weight.{Weight}
 use Rattle.weight.specs.Limit.{limit, in_limit}
 use Rattle.reading.specs.declared.fault.ReadingFault.{ReadingFault}
@@ -16,6 +16,14 @@ grams_of (Err e) = Err e
 -- channels are numbered from 1 to 64
 abbrev pub is_channel : ℕ → Bool
 is_channel k = nat_le 1 k && nat_le k 64
+
+-- where channel k stands in a list of what belongs to the channels: the first stands at 0
+abbrev pub place_of : ℕ → Option ℕ
+place_of k = cond (is_channel k) (Some (k - 1)) None
+
+-- what stands there for channel k, if there is any
+abbrev pub at_channel : {X : Type 0} → List X → ℕ → Option X
+at_channel xs k = cond (is_channel k) (slice_get xs (k - 1)) None
 
 -- a weight beyond the limit is a fault
 abbrev pub held_to_limit : ℤ → Reading

@@ -3,7 +3,9 @@ pub mod AtChannel
 pub mod Drops
 pub mod Faults
 pub mod Intervals
+pub mod Laws
 pub mod OfBoard
+pub mod OfLayer
 pub mod OfStep
 pub mod OfTare
 pub mod Refusals

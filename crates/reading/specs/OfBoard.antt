@@ -1,7 +1,7 @@
 -- What a board answers, and what becomes of a record that is written to it.
-use Rattle.std.specs.Prelude.{ℕ, ◌-◌, Bool, false, cond, ◌&&◌, List, length, pos, Ok, Err, vec_items, nat_le, slice_index_or}
+use Rattle.std.specs.Prelude.{ℕ, Bool, cond, List, Some, None, Ok, Err, Option, is_some, vec_items}
 use Rattle.weight.specs.Limit.{in_limit}
-use Rattle.reading.specs.Answers.{Reading, held_to_limit, is_channel}
+use Rattle.reading.specs.Answers.{Reading, at_channel, held_to_limit}
 use Rattle.reading.specs.Settings.{Setting}
 use Rattle.reading.specs.declared.board.Board.{Board}
 use Rattle.reading.specs.declared.board.Record.{Record}
@@ -12,16 +12,16 @@ use Rattle.reading.specs.declared.refusal.SettingRefusal.TheVariants.{NoChannel,
 abbrev pub record_answer : Record → Reading
 record_answer r = cond r.resting (held_to_limit r.grams) (Err NotAtRest)
 
--- the record of channel k is the k-th, and only the first 64 count
-abbrev pub has_record : List Record → ℕ → Bool
-has_record records k = is_channel k && nat_le k (length records)
-
--- the value past the end of a list, which no answer rests on
-abbrev pub no_record : Record
-no_record = record { grams = pos 0; resting = false }
+-- what a channel's record answers, if it has one: the k-th is that of channel k, and only the first 64 count
+abbrev pub fitted_answer : Option Record → Reading
+fitted_answer None = Err NotFitted
+fitted_answer (Some r) = record_answer r
 
 abbrev pub board_answer : List Record → ℕ → Reading
-board_answer records k = cond (has_record records k) (record_answer (slice_index_or records (k - 1) no_record)) (Err NotFitted)
+board_answer records k = fitted_answer (at_channel records k)
+
+abbrev pub has_record : List Record → ℕ → Bool
+has_record records k = is_some (at_channel records k)
 
 abbrev pub records_of : Board → List Record
 records_of board = vec_items board.records

@@ -1,10 +1,11 @@
 // The board: readings from the records that the load-cell bus keeps.
 ghost use Rattle.std.specs.Prelude.{◌≡◌, ◌-◌, slice_set};
 ghost use Rattle.reading.specs.Answers.{grams_of};
-ghost use Rattle.reading.specs.OfBoard.{answers_of, has_record, leave_answer, put_answer, record_answer, records_of, weight_or_motion};
+ghost use Rattle.reading.specs.OfBoard.{answers_of, leave_answer, put_answer, record_answer, records_of, weight_or_motion};
 ghost use Rattle.reading.specs.Settings.{Changes, after};
+ghost use Rattle.reading.specs.Laws.{board_lawful};
 
-use crate::answer::{held_to_limit, is_channel};
+use crate::answer::{at_channel, held_to_limit, place_of};
 use crate::fault::ReadingFault;
 use crate::refusal::SettingRefusal;
 use crate::source::ReadingSource;
@@ -43,24 +44,14 @@ impl Board {
         Board { records }
     }
 
-    fn has_record(&self, channel: u32) -> bool
-        ensures { result ≡ has_record (records_of self.now) channel }
-    {
-        is_channel(channel) && channel as usize <= self.records.len()
-    }
-
     // Writes one record, whose weight is to be within the limit whatever its mark.
     pub fn put(&mut self, channel: u32, given: Record) -> Result<(), SettingRefusal>
         ensures answer { result ≡ put_answer (records_of self.old) channel given }
         ensures records { records_of self.new ≡ after result (records_of self.old) (slice_set (records_of self.old) (channel - 1) given) }
         ensures meaning { Changes (answers_of self.old) (answers_of self.new) channel (weight_or_motion given) result }
     {
-        if !self.has_record(channel) {
-            return Err(SettingRefusal::NoChannel);
-        }
-        if Weight::new(given.grams).is_none() {
-            return Err(SettingRefusal::BadWeight);
-        }
+        at_channel(&self.records, channel).ok_or(SettingRefusal::NoChannel)?;
+        Weight::new(given.grams).ok_or(SettingRefusal::BadWeight)?;
         self.leave(channel, given)
     }
 
@@ -70,10 +61,11 @@ impl Board {
         ensures records { records_of self.new ≡ after result (records_of self.old) (slice_set (records_of self.old) (channel - 1) given) }
         ensures meaning { Changes (answers_of self.old) (answers_of self.new) channel (record_answer given) result }
     {
-        if !self.has_record(channel) {
+        let place = place_of(channel).ok_or(SettingRefusal::NoChannel)?;
+        let Some(record) = self.records.get_mut(place) else {
             return Err(SettingRefusal::NoChannel);
-        }
-        self.records[channel as usize - 1] = given;
+        };
+        *record = given;
         Ok(())
     }
 }
@@ -81,11 +73,10 @@ impl Board {
 impl ReadingSource for Board {
     ghost answers = { answers_of };
 
+    ghost lawful = { λ b. board_lawful (records_of b) };
+
     fn ask(&self, channel: u32) -> Result<Weight, ReadingFault> {
-        if self.has_record(channel) {
-            self.records[channel as usize - 1].answer()
-        } else {
-            Err(ReadingFault::NotFitted)
-        }
+        let record = at_channel(&self.records, channel).ok_or(ReadingFault::NotFitted)?;
+        record.answer()
     }
 }

@@ -1,90 +1,73 @@
 // A layer that takes each channel's tare from the weight below it.
-ghost use Rattle.std.specs.Prelude.{◌≡◌, ℕ, ◌-◌, set, replicate, pos, slice_set};
+ghost use Rattle.std.specs.Prelude.{◌≡◌, ℕ, ◌-◌, ◌-ℤ◌, replicate, pos, slice_set};
+ghost use Rattle.reading.specs.Answers.{held_to_limit};
 ghost use Rattle.reading.specs.OfTare.{grams_each, tare_answers, tare_at, tare_setting, tared};
-ghost use Rattle.reading.specs.Answers.{Lawful};
 ghost use Rattle.reading.specs.Settings.{Changes, after};
+ghost use Rattle.reading.specs.Laws.{tare_held, tare_leaves};
 
-use crate::answer::{held_to_limit, is_channel};
+use crate::answer::{at_channel, held_to_limit, place_of};
 use crate::fault::ReadingFault;
+use crate::layer::{Adjustment, Layer};
 use crate::refusal::SettingRefusal;
 use crate::source::ReadingSource;
 use weight::Weight;
 
-// The tare of channel k stands at index k - 1.
-#[derive(Drop)]
-pub struct Tare<S> {
-    pub below: S,
-    tares: [Weight; 64],
+// A tare for each channel: that of channel k stands at index k - 1.
+#[derive(Clone, Copy, PartialEq, Eq, Debug)]
+pub struct Tares {
+    each: [Weight; 64],
 }
 
-fn no_tares() -> [Weight; 64]
-    ensures { grams_each result ≡ replicate 64 (pos 0) }
-{
-    [Weight::zero(); 64]
-}
-
-// No source has a weight outside the channels, so no tare is taken from one there.
-fn tare_of(tares: &[Weight; 64], channel: u32) -> Weight
-    ensures { result.grams ≡ tare_at (grams_each tares.now) channel }
-{
-    if is_channel(channel) {
-        tares[channel as usize - 1]
-    } else {
-        Weight::zero()
+impl Tares {
+    // No source has a weight outside the channels, so no tare is taken from one there.
+    fn of(&self, channel: u32) -> Weight
+        ensures { result.grams ≡ tare_at (grams_each self.now.each) channel }
+    {
+        at_channel(&self.each, channel)
+            .copied()
+            .unwrap_or(Weight::zero())
     }
 }
 
-impl<S: ReadingSource> Tare<S> {
-    // No tare is set at first, so every source that keeps the rules of sources answers as before.
-    pub fn over(below: S) -> Tare<S>
-        ensures below { result.below ≡ below }
-        ensures tares { grams_each result.tares ≡ replicate 64 (pos 0) }
-        ensures meaning { Lawful (S.ReadingSource.answers below) → (k : ℕ) → tare_answers S.ReadingSource.answers result k ≡ S.ReadingSource.answers below k }
-    {
-        Tare {
-            below,
-            tares: no_tares(),
+impl Default for Tares {
+    ghost is_default = { λ t. grams_each t.each ≡ replicate 64 (pos 0) };
+
+    // No grams on any channel.
+    fn default() -> Tares {
+        Tares {
+            each: [Weight::zero(); 64],
         }
     }
+}
 
-    // The same tares over another source.
-    pub fn same_over<T: ReadingSource>(&self, below: T) -> Tare<T>
-        ensures below { result.below ≡ below }
-        ensures tares { result.tares ≡ self.now.tares }
-    {
-        Tare {
-            below,
-            tares: self.tares,
-        }
+pub type Tare<S> = Layer<S, Tares>;
+
+impl Adjustment for Tares {
+    ghost adjusted = { λ t k z. held_to_limit (z -ℤ tare_at (grams_each t.each) k) };
+
+    ghost held = { λ t k. tare_held (grams_each t.each) k };
+
+    ghost leaves = { λ t k. tare_leaves (grams_each t.each) k };
+
+    fn adjust(&self, channel: u32, weight: Weight) -> Result<Weight, ReadingFault> {
+        held_to_limit(weight.grams() - self.of(channel).grams())
     }
+}
 
+impl<S: ReadingSource> Layer<S, Tares> {
     // A tare is for one of the 64 channels, fitted or not, and is a weight that is not negative.
     pub fn set(&mut self, channel: u32, grams: i32) -> Result<(), SettingRefusal>
         ensures answer { result ≡ tare_setting channel grams }
-        ensures tares { grams_each self.new.tares ≡ after result (grams_each self.old.tares) (slice_set (grams_each self.old.tares) (channel - 1) grams) }
+        ensures tares { grams_each self.new.setting.each ≡ after result (grams_each self.old.setting.each) (slice_set (grams_each self.old.setting.each) (channel - 1) grams) }
         ensures below { self.new.below ≡ self.old.below }
         ensures meaning { Changes (tare_answers S.ReadingSource.answers self.old) (tare_answers S.ReadingSource.answers self.new)
             channel (tared grams (S.ReadingSource.answers self.old.below channel)) result }
     {
-        if !is_channel(channel) {
-            return Err(SettingRefusal::NoChannel);
-        }
-        if grams < 0 {
-            return Err(SettingRefusal::BadWeight);
-        }
-        let Some(tare) = Weight::new(grams) else {
-            return Err(SettingRefusal::BadWeight);
-        };
-        self.tares[channel as usize - 1] = tare;
+        let place = place_of(channel).ok_or(SettingRefusal::NoChannel)?;
+        let tare = Weight::new(grams)
+            .filter(|tare| tare.grams() >= 0)
+            .ok_or(SettingRefusal::BadWeight)?;
+        self.setting.each[place] = tare;
         Ok(())
-    }
-}
-
-impl<S: ReadingSource> ReadingSource for Tare<S> {
-    ghost answers = { tare_answers S.ReadingSource.answers };
-
-    fn ask(&self, channel: u32) -> Result<Weight, ReadingFault> {
-        let weight = self.below.ask(channel)?;
-        held_to_limit(weight.grams() - tare_of(&self.tares, channel).grams())
     }
 }

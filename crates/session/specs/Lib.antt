@@ -1,4 +1,5 @@
 pub mod Answers
+pub mod Laws
 pub mod Obeyed
 pub mod OfHoppers
 pub mod Totals

@@ -36,8 +36,8 @@ pub record State : Type 0 where
 abbrev pub state_of : Bench → State
 state_of b = record {
   records = vec_items b.hoppers.layers.below.below.records;
-  tares = grams_each b.hoppers.layers.below.tares;
-  interval = b.hoppers.layers.interval.grams;
+  tares = grams_each b.hoppers.layers.below.setting.each;
+  interval = b.hoppers.layers.setting.grams;
   pile = b.hoppers.pile;
   counting = b.counting;
   stations = vec_items b.stations;

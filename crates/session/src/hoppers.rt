@@ -2,6 +2,7 @@
 ghost use Rattle.std.specs.Prelude.{◌≡◌};
 ghost use Rattle.reading.specs.OfTare.{grams_each};
 ghost use Rattle.session.specs.OfHoppers.{piled};
+ghost use Rattle.session.specs.Laws.{piled_lawful};
 
 use command::Pile;
 use reading::{Board, ReadingFault, ReadingSource, Step, Tare};
@@ -15,7 +16,9 @@ pub struct Hoppers {
 }
 
 impl ReadingSource for Hoppers {
-    ghost answers = { λ h. piled h.pile h.layers.below.below.records.items (grams_each h.layers.below.tares) h.layers.interval.grams };
+    ghost answers = { λ h. piled h.pile h.layers.below.below.records.items (grams_each h.layers.below.setting.each) h.layers.setting.grams };
+
+    ghost lawful = { λ h. piled_lawful h.pile h.layers.below.below.records.items (grams_each h.layers.below.setting.each) h.layers.setting.grams };
 
     fn ask(&self, channel: u32) -> Result<Weight, ReadingFault> {
         let board = &self.layers.below.below;

@@ -31,6 +31,7 @@ fn add_at<V: Arithmetic, S: ReadingSource>(
 }
 
 // The weights of the channels added from the left onto whole of 0; the first fault ends it.
+#[tactic(auto, using(crate::proofs::Sums::totalled_drop, crate::proofs::Sums::totalled_end))]
 pub fn total<V: Arithmetic, S: ReadingSource>(source: &S, channels: &[u32]) -> Result<V, TotalFault>
     ensures { result ≡ totalled V.Arithmetic.rules (S.ReadingSource.answers source.now) (V.Arithmetic.rules.whole (pos 0)) channels.now }
 {

@@ -1,0 +1,7 @@
+use Rattle.std.proofs.Common.{rules}
+use Rattle.std.proofs.lemmas.Int.{wraps}
+use Rattle.old.proofs.Wrapping.{congruent}
+use Rattle.old.proofs.OldArithmetic.minus.Goals as goal
+
+pub returns-clause-congruent : goal.returns-clause-congruent
+returns-clause-congruent c = congruent _ _ (search (rules, wraps))
