@@ -1,5 +1,5 @@
 -- The names that are known at a place: the functions, and the variables in force.
-use Rattle.std.specs.Prelude.{ℕ, cond, List, [], ◌∷◌, map, reverse, Some, None, Option}
+use Rattle.std.specs.Prelude.{ℕ, List, map, reverse, Option}
 use Rattle.std.specs.List.{between, find}
 use Rattle.std.specs.Str.{bytes_eq}
 use Rattle.recipe.specs.Tokens.{Ident}
@@ -35,13 +35,11 @@ bound v = record { name = v.name.now; to = v.slot }
 abbrev pub in_force : List Variable → List Bound
 in_force scope = map bound (reverse scope)
 
-abbrev pub spelled : List Bound → List (List ℕ)
-spelled [] = []
-spelled (b ∷ bs) = b.name ∷ spelled bs
+abbrev pub newest_of : List Variable → List ℕ → Option Variable
+newest_of scope x = find (λ v. bytes_eq x v.name.now) (reverse scope)
 
-abbrev pub slot_in : List Bound → List ℕ → Option ℕ
-slot_in [] x = None
-slot_in (b ∷ bs) x = cond (bytes_eq x b.name) (Some b.to) (slot_in bs x)
+abbrev pub spelled : List Bound → List (List ℕ)
+spelled bounds = map (λ b. b.name) bounds
 
 abbrev pub env : List Function → List Variable → Env
 env functions scope = record { signatures = signed functions; entries = entered functions; in_scope = in_force scope }

@@ -4,7 +4,7 @@ ghost use Rattle.recipe.specs.declared.cause.Cause.TheVariants.{Channel, Unknown
 ghost use Rattle.recipe.specs.Names.{fault_unless, among, arity_of, call_faults};
 ghost use Rattle.recipe.specs.Image.{VAR, WEIGH, CALL, find};
 ghost use Rattle.lexer.specs.Lexed.{Valid};
-ghost use Rattle.pass.specs.Known.{ident, entered, in_force, spelled, slot_in, first_of, signed};
+ghost use Rattle.pass.specs.Known.{ident, entered, in_force, spelled, newest_of, first_of, signed};
 ghost use Rattle.pass.specs.Outputs.{emitted, pushed, faulted};
 
 use crate::cursor::Spot;
@@ -47,11 +47,11 @@ impl Drop for Within<'_, '_> {
     }
 }
 
-// The slot of the newest variable of a name.
-pub(crate) fn slot_of(scope: &[Variable], name: &[u8]) -> Option<u16>
-    ensures { result ≡ slot_in (in_force scope.now) name.now }
+// The newest variable of a name.
+pub(crate) fn variable_of<'t>(scope: &[Variable<'t>], name: &[u8]) -> Option<Variable<'t>>
+    ensures { result ≡ newest_of scope.now name.now }
 {
-    scope.iter().rev().find(|v| name == v.name).map(|v| v.slot)
+    scope.iter().rev().find(|v| name == v.name).copied()
 }
 
 // The first function of a name.
@@ -91,8 +91,8 @@ impl Descent<'_, '_> {
             result ≡ pushed held (faulted out (fault_unless (among (spelled (in_force scope.now)) x.name) x.place UnknownName)) }
         ensures written { image.new ≡ slice_set image.old out.at (VAR (find (in_force scope.now) (ident self.now.text.now here.now.look).name)) }
     {
-        match slot_of(scope, here.spelling(self.text)) {
-            Some(slot) => out.push(held, image, Instruction::Variable(slot)),
+        match variable_of(scope, here.spelling(self.text)) {
+            Some(v) => out.push(held, image, Instruction::Variable(v.slot)),
             None => out
                 .note(Some(here.refused(Cause::UnknownName)))
                 .push(held, image, Instruction::Variable(0)),

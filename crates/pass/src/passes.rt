@@ -7,7 +7,7 @@ use crate::base::Base;
 use crate::cursor::{Level, Spot};
 use crate::descent::Descent;
 use crate::instruction::Instruction;
-use crate::names::{Function, Scope, Variable, function_of, slot_of};
+use crate::names::{Function, Scope, Variable, function_of, variable_of};
 use crate::output::Output;
 use arrayvec::ArrayVec;
 use lexer::{Kind, next_token};
@@ -30,7 +30,7 @@ pub(crate) struct Heads<'t> {
 
 // What a pass over a recipe comes to: the indices past the functions' words and past the main expression's, the first fault of the names,
 // the place of the first frame that is too large, and the functions.
-#[derive(PartialEq, Eq, Debug, Drop)]
+#[derive(Clone, PartialEq, Eq, Debug, Drop)]
 pub struct Pass<'t> {
     pub past_functions: usize,
     pub past_main: Base,
@@ -69,7 +69,7 @@ impl<'t> Descent<'t, '_> {
         let slot = scope.len();
         if slot < 8 {
             let name = here.spelling(self.text);
-            let again = slot_of(scope, name).is_some();
+            let again = variable_of(scope, name).is_some();
             let fault = again.then_some(here.refused(Cause::DeclaredTwice));
             scope.push(Variable {
                 name,

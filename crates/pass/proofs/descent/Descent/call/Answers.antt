@@ -1,7 +1,8 @@
-use Rattle.std.proofs.Common.{ℕ, ◌==◌, not, [], ◌∷◌, Option, set, sym, ap, ◌∙◌}
+use Rattle.std.proofs.Common.{ℕ, ◌==◌, not, List, [], ◌∷◌, Option, set, sym, ap, ◌∙◌}
 use mathlib.Core.Option as opt
 use Rattle.std.specs.Bool.{then_some}
-use Rattle.std.specs.Option.{option_to_list}
+use Rattle.std.specs.Option.{option_to_list, option_map_or}
+use Rattle.pass.specs.declared.names.Function.{Function}
 use Rattle.recipe.specs.Names.{call_faults}
 use Rattle.recipe.specs.Image.{CALL}
 use Rattle.recipe.specs.declared.cause.Refusal.{Refusal}
@@ -9,9 +10,15 @@ use Rattle.recipe.specs.declared.cause.Cause.TheVariants.{ArgumentCount}
 use Rattle.pass.specs.declared.output.Output.{Output}
 use Rattle.pass.specs.Known.{ident, first_of}
 use Rattle.pass.specs.Outputs.{emitted, faulted}
-use Rattle.pass.proofs.Lookups.{arity_at, arity_first, target_at, find_first}
+use Rattle.pass.proofs.Lookups.{arity_at, arity_first, found_first}
 use Rattle.pass.proofs.Makes.{noted_unless}
 use Rattle.pass.proofs.descent.Descent.call.Goals as goal
+
+abbrev named : Function → List ℕ
+named f = f.name.now
+
+abbrev target : Function → ℕ
+target f = f.target
 
 pub returns-in-Some : goal.returns-in-Some
 returns-in-Some c =
@@ -26,7 +33,7 @@ returns-in-Some c =
     record {
       made = c.emit.ensures.made ∙ (ap emitted noted ∙ ap (λ (a : opt.Option ℕ). emitted (faulted c.args.out (call_faults a n x.place))) (sym (arity_first functions x.name ∙ ap arity_at found)));
       written = c.emit.ensures.written ∙ (ap (λ (o : Output). set c.args.image.now o.at (CALL n f.target)) noted
-          ∙ ap (set c.args.image.now c.args.out.at) (ap (CALL n) (sym (find_first functions x.name ∙ ap target_at found))));
+          ∙ ap (set c.args.image.now c.args.out.at) (ap (CALL n) (sym (found_first named target functions x.name ∙ ap (λ (g : Option Function). option_map_or target g 0) found))));
     }
 
 pub returns-in-None : goal.returns-in-None
@@ -39,5 +46,5 @@ returns-in-None c =
     record {
       made = c.emit-in-None.ensures.made ∙ (ap emitted noted ∙ ap (λ (a : opt.Option ℕ). emitted (faulted c.args.out (call_faults a n x.place))) (sym (arity_first functions x.name ∙ ap arity_at found)));
       written = c.emit-in-None.ensures.written ∙ (ap (λ (o : Output). set c.args.image.now o.at (CALL n 0)) noted
-          ∙ ap (set c.args.image.now c.args.out.at) (ap (CALL n) (sym (find_first functions x.name ∙ ap target_at found))));
+          ∙ ap (set c.args.image.now c.args.out.at) (ap (CALL n) (sym (found_first named target functions x.name ∙ ap (λ (g : Option Function). option_map_or target g 0) found))));
     }

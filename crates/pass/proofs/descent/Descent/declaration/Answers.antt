@@ -1,9 +1,9 @@
 use Rattle.std.proofs.Common.{refl, inr, arith}
-use Rattle.std.proofs.lemmas.Result.{err_from_is_err_and}
 use Rattle.pass.specs.Known.{ident, entered, spelled}
 use Rattle.pass.specs.Reads.{With}
+use Rattle.pass.proofs.Spots.{exit}
 use Rattle.pass.proofs.Tables.{past_name, added_on}
-use Rattle.pass.proofs.Lookups.{noted_again, function_again}
+use Rattle.pass.proofs.Lookups.{noted_again, among_by}
 use Rattle.pass.proofs.descent.Descent.declaration.Goals as goal
 
 pub returns-in_err-inside : goal.returns-in_err-inside
@@ -11,17 +11,16 @@ returns-in_err-inside c =
     let text = c.args.self.now.text.now in
     let h = c.args.heads.now in
     let q = c.in_ok-after.ensures in
-    let again = function_again c.function_of.ensures c.deref.ensures.0 c.spelling-name.ensures c.is_some-again.ensures in
+    let again = among_by (λ f. f.name.now) (λ f. f.target) c.function_of.ensures c.deref.ensures.0 c.spelling-name.ensures c.is_some-again.ensures in
     let o = noted_again _ (spelled (entered h.functions.items)) (ident text h.next.look) c.note.ensures c.then_some.ensures c.refused.ensures again in
-    let p = err_from_is_err_and c.from_residual-in_err-inside.result c.from_residual-in_err-inside.ensures.1 in
-    rw (p.1, p.2) (inr (_, past_name text h (omega (arith, q.0, c.len.ensures.value)) q.1 q.2 o, c.in_err-inside.ensures))
+    exit _ _ _ c.from_residual-in_err-inside.ensures.1 (inr (_, past_name text h (omega (arith, q.0, c.len.ensures.value)) q.1 q.2 o, c.in_err-inside.ensures))
 
 pub returns : goal.returns
 returns c =
     let text = c.args.self.now.text.now in
     let h = c.args.heads.now in
     let q = c.in_ok-after.ensures in
-    let again = function_again c.function_of.ensures c.deref.ensures.0 c.spelling-name.ensures c.is_some-again.ensures in
+    let again = among_by (λ f. f.name.now) (λ f. f.target) c.function_of.ensures c.deref.ensures.0 c.spelling-name.ensures c.is_some-again.ensures in
     let o = noted_again _ (spelled (entered h.functions.items)) (ident text h.next.look) c.note.ensures c.then_some.ensures c.refused.ensures again in
     let e = c.in_ok-inside.ensures in
     let n = past_name text h (omega (arith, q.0, c.len.ensures.value)) q.1 q.2 o in

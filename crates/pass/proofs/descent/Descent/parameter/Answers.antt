@@ -1,10 +1,10 @@
-use Rattle.std.proofs.Common.{◌∷◌, ap, ◌∙◌, arith}
+use Rattle.std.proofs.Common.{◌∷◌, reverse, ap, ◌∙◌, arith}
 use Rattle.recipe.specs.Image.{Bound}
 use Rattle.pass.specs.declared.output.Output.{Output}
 use Rattle.pass.specs.Known.{ident, in_force, spelled}
 use Rattle.pass.specs.Outputs.{faulted, again}
 use Rattle.pass.proofs.Makes.{at_of}
-use Rattle.pass.proofs.Lookups.{noted_again, slot_again, in_force_more}
+use Rattle.pass.proofs.Lookups.{noted_again, among_by, in_force_more}
 use Rattle.pass.proofs.descent.Descent.parameter.Goals as goal
 
 pub returns-then-slot-lt8 : goal.returns-then-slot-lt8
@@ -13,7 +13,7 @@ returns-then-slot-lt8 c =
     let x = ident c.args.self.now.text.now c.args.here.look in
     let known = spelled (in_force scope) in
     let a = c.in_ok-after.ensures in
-    let stands = slot_again c.slot_of.ensures c.deref.ensures.0 c.spelling-name.ensures c.is_some-again.ensures in
+    let stands = among_by (λ v. v.name.now) (λ v. v.slot) c.variable_of.ensures (ap reverse c.deref.ensures.0) c.spelling-name.ensures c.is_some-again.ensures in
     let o = noted_again _ known x c.note.ensures c.then_some-fault.ensures c.refused.ensures stands in
     record {
       few = omega (arith, c.if-slot-lt8.true, c.len-slot.ensures.value);
