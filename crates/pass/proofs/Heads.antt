@@ -118,7 +118,8 @@ made_head v m {o = o} {o₂ = o₂} {o₃ = o₃} {o₄ = o₄} {m₁ = m₁} {m
       peak = peak_of d ∙ (r.peak ∙ (ap (λ j. max j (n + need e)) (peak_of b ∙ (peak_of a ∙ peak_of p.out)) ∙ ap (λ j. max o.peak (j + need e)) c));
       fault = fault_of d ∙ (r.fault ∙ (ap (λ (x : Option Refusal). earliest x (faults F (spelled v.in_scope) e)) (fault_of b ∙ (fault_of a ∙ fault_of p.out))
           ∙ (sym (earliest-++ o.fault (twice [] (all xs)) (faults F (spelled v.in_scope) e))
-          ∙ ap (λ (fs : List Refusal). earliest o.fault (twice [] (all xs) ++ fs)) (ap (λ (Δ : List Bound). faults F (spelled Δ) e) in_scope ∙ faults_alike F (spelled Γ) (names_of (all xs)) (among_names 0 (all xs)) e))));
+          ∙ ap (λ (fs : List Refusal). earliest o.fault (twice [] (all xs) ++ fs))
+          (ap (λ (Δ : List Bound). faults F (spelled Δ) e) in_scope ∙ faults_alike F (spelled Γ) (names_of (all xs)) (among_names 0 (all xs)) e))));
       written = h ∙ (ap (set m₂ o₄.at) back ∙ (ap (λ j. set m₂ j BACK) at₄
           ∙ (ap (λ (x : List ℕ). set x (past (i + 1) e) BACK)
           (r.written ∙ (ap (λ j. placed m₁ j (words v.entries v.in_scope n j e)) at₃ ∙ (ap (λ (Δ : List Bound). placed m₁ (i + 1) (words v.entries Δ n (i + 1) e)) in_scope

@@ -158,9 +158,12 @@ recipe_more text functions base {m = m} {m₂ = m₂} {h = h} {h' = h'} g r =
 
 -- the main expression after the declarations
 pub main_made : {F : List Signature} {Φ : List Bound} (base : ℕ) (m : List ℕ) (ds : List Declaration) (e : Expr) {v : Env} {o o₁ o₂ : Output} {m₁ m₂ m₃ : List ℕ} {w : ℕ} →
-    v ≡ record { signatures = F; entries = Φ; in_scope = [] } → o.at ≡ 1 → o.peak ≡ 0 → o.fault ≡ earliest None (twice [] (declared_names ds) ++ body_faults F ds) → m₁ ≡ placed m base (bodies Φ base ds) →
+    v ≡ record { signatures = F; entries = Φ; in_scope = [] } → o.at ≡ 1 → o.peak ≡ 0 →
+    o.fault ≡ earliest None (twice [] (declared_names ds) ++ body_faults F ds) → m₁ ≡ placed m base (bodies Φ base ds) →
     Made v 0 o m₁ e o₁ m₂ → o₂ ≡ emitted o₁ → m₃ ≡ set m₂ o₁.at w → w ≡ BACK →
-    (o₂.at ≡ past 1 e + 1) × (o₂.peak ≡ need e) × (o₂.fault ≡ earliest None (twice [] (declared_names ds) ++ (body_faults F ds ++ faults F [] e))) × (m₃ ≡ placed (placed m base (bodies Φ base ds)) 1 (words Φ [] 0 1 e ++ (BACK ∷ [])))
+    (o₂.at ≡ past 1 e + 1) × (o₂.peak ≡ need e) ×
+    (o₂.fault ≡ earliest None (twice [] (declared_names ds) ++ (body_faults F ds ++ faults F [] e))) ×
+    (m₃ ≡ placed (placed m base (bodies Φ base ds)) 1 (words Φ [] 0 1 e ++ (BACK ∷ [])))
 main_made {F = F} {Φ = Φ} base m ds e {o = o} {o₁ = o₁} {m₁ = m₁} {m₂ = m₂} k a z f g r' b h back =
     let r = knowing k r' in
     let at₁ = r.index ∙ ap (λ i. past i e) a in (

@@ -76,8 +76,8 @@ past_name text h l p c u = record {
   fault = fault_of u ∙ ap (λ (y : Option Refusal). earliest y (again (spelled (entered h.functions.items)) (ident text h.next.look))) (fault_of p.out);
 }
 
-pub added_on : (text : List ℕ) (functions : List Function) (h : Heads) {h' : Heads} {s : Spot} {d : ADeclared} {m m' : List ℕ} → DeclarationsOn text h → PastName text h s → Headed text functions s m d m' →
-    With text h d h' → DeclarationsOn text h'
+pub added_on : (text : List ℕ) (functions : List Function) (h : Heads) {h' : Heads} {s : Spot} {d : ADeclared} {m m' : List ℕ} →
+    DeclarationsOn text h → PastName text h s → Headed text functions s m d m' → With text h d h' → DeclarationsOn text h'
 added_on text functions h j n e w =
     let more = ap length w.listed ∙ length_push h.functions.items w.function in
     record {

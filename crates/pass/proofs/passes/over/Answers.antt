@@ -1,5 +1,4 @@
 use Rattle.std.proofs.Common.{ℕ, length, None, Option, refl, ap, ◌∙◌, arith}
-use Rattle.std.proofs.lemmas.Result.{err_from_is_err_and}
 use Rattle.recipe.specs.Names.{all}
 use Rattle.pass.specs.Known.{env}
 use Rattle.pass.specs.Outputs.{over_with, over_all}
@@ -8,6 +7,7 @@ use Rattle.lexer.specs.declared.Kind.TheVariants.{End}
 use Rattle.pass.proofs.Steps.{known_ahead, declarations_bad, main_bad, main_read}
 use Rattle.pass.proofs.Makes.{fault_of}
 use Rattle.pass.proofs.Tables.{frames_over}
+use Rattle.pass.proofs.Spots.{exit}
 use Rattle.pass.proofs.Recipes.{main_made}
 use Rattle.pass.proofs.passes.over.Goals as goal
 
@@ -15,15 +15,13 @@ pub returns-in_err-within : goal.returns-in_err-within
 returns-in_err-within c =
     let g = c.in_ok-heads.ensures in
     let b = c.in_err-within.ensures in
-    let p = err_from_is_err_and c.from_residual-in_err-within.result c.from_residual-in_err-within.ensures.1 in
-    rw (p.1, p.2, b.0.0, b.0.1) (declarations_bad (length c.args.text.now) g.1.read g.2 b.1)
+    exit _ _ _ c.from_residual-in_err-within.ensures.1 (rw (b.0.0, b.0.1) (declarations_bad (length c.args.text.now) g.1.read g.2 b.1))
 
 pub returns-in_err-last : goal.returns-in_err-last
 returns-in_err-last c =
     let g = c.in_ok-heads.ensures in
     let w = c.in_ok-within.ensures in
-    let p = err_from_is_err_and c.from_residual-in_err-last.result c.from_residual-in_err-last.ensures.1 in
-    rw (p.1, p.2) (main_bad (length c.args.text.now) g.1.read w.0.token g.0.fit.1 w.1 c.in_err-last.ensures.goes)
+    exit _ _ _ c.from_residual-in_err-last.ensures.1 (main_bad (length c.args.text.now) g.1.read w.0.token g.0.fit.1 w.1 c.in_err-last.ensures.goes)
 
 pub returns : goal.returns
 unfolding main_read

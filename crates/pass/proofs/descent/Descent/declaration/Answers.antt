@@ -1,7 +1,7 @@
 use Rattle.std.proofs.Common.{refl, inr, arith}
-use Rattle.std.proofs.lemmas.Result.{err_from_is_err_and}
 use Rattle.pass.specs.Known.{ident, entered, spelled}
 use Rattle.pass.specs.Reads.{With}
+use Rattle.pass.proofs.Spots.{exit}
 use Rattle.pass.proofs.Tables.{past_name, added_on}
 use Rattle.pass.proofs.Lookups.{noted_again, among_by}
 use Rattle.pass.proofs.descent.Descent.declaration.Goals as goal
@@ -13,8 +13,7 @@ returns-in_err-inside c =
     let q = c.in_ok-after.ensures in
     let again = among_by (λ f. f.name.now) (λ f. f.target) c.function_of.ensures c.deref.ensures.0 c.spelling-name.ensures c.is_some-again.ensures in
     let o = noted_again _ (spelled (entered h.functions.items)) (ident text h.next.look) c.note.ensures c.then_some.ensures c.refused.ensures again in
-    let p = err_from_is_err_and c.from_residual-in_err-inside.result c.from_residual-in_err-inside.ensures.1 in
-    rw (p.1, p.2) (inr (_, past_name text h (omega (arith, q.0, c.len.ensures.value)) q.1 q.2 o, c.in_err-inside.ensures))
+    exit _ _ _ c.from_residual-in_err-inside.ensures.1 (inr (_, past_name text h (omega (arith, q.0, c.len.ensures.value)) q.1 q.2 o, c.in_err-inside.ensures))
 
 pub returns : goal.returns
 returns c =
