@@ -1,5 +1,5 @@
 -- Read Tokens, Grammar, Within, Names, Frames, Image, Compiled and Theorem, with the examples in Worked.
--- Machine and Limits say at which token a text is refused.
+-- Machine and Limits say at which token a text is refused, and Words how a refusal is printed.
 pub mod Causes
 pub mod Words
 pub mod Tokens

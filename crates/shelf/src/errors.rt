@@ -35,10 +35,14 @@ impl fmt::Display for NotKept {
 }
 
 impl fmt::Display for CompileError {
+    ghost use Rattle.shelf.specs.Words.{compile_error_words};
+
+    ghost output = { compile_error_words };
+
     fn fmt<W: fmt::Write>(&self, f: &mut fmt::Formatter<W>) -> fmt::Result {
         match self {
-            CompileError::NotKept(reason) => write!(f, "{reason}"),
-            CompileError::Memory(refused) => write!(f, "{refused}"),
+            CompileError::NotKept(cause) => write!(f, "{cause}"),
+            CompileError::Memory(cause) => write!(f, "{cause}"),
         }
     }
 }
