@@ -21,7 +21,7 @@ pub trait Adjustment: Copy + Default {
     ghost leaves: { (s : Self) (k : ℕ) → Self.is_default s → Leaves (adjusted s k) };
 }
 
-// A fault from below is passed on.
+// A source over another: what comes from below is adjusted, but a fault is passed on as it is.
 #[derive(Drop)]
 pub struct Layer<S, A> {
     pub below: S,
