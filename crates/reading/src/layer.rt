@@ -22,7 +22,7 @@ pub trait Adjustment: Copy + Default {
 }
 
 // A source over another: what comes from below is adjusted, but a fault is passed on as it is.
-#[derive(Drop)]
+#[derive(PartialEq, Eq, Debug, Drop)]
 pub struct Layer<S, A> {
     pub below: S,
     pub(crate) setting: A,
