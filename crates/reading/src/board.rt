@@ -11,7 +11,8 @@ use crate::refusal::SettingRefusal;
 use crate::source::ReadingSource;
 use weight::Weight;
 
-// What the bus last wrote for one channel.
+// What the bus last wrote for one channel. It writes grams for a load that moves too, and put judges them whatever the
+// mark, so the mark stands beside them.
 #[derive(Clone, Copy, PartialEq, Eq, Debug)]
 pub struct Record {
     pub grams: i32,
@@ -32,7 +33,7 @@ impl Record {
 }
 
 // The record of channel k stands at index k - 1, and only the first 64 count.
-#[derive(Drop)]
+#[derive(PartialEq, Eq, Debug, Drop)]
 pub struct Board {
     records: Vec<Record>,
 }

@@ -21,8 +21,8 @@ pub trait Adjustment: Copy + Default {
     ghost leaves: { (s : Self) (k : ℕ) → Self.is_default s → Leaves (adjusted s k) };
 }
 
-// A fault from below is passed on.
-#[derive(Drop)]
+// A source over another: what comes from below is adjusted, but a fault is passed on as it is.
+#[derive(PartialEq, Eq, Debug, Drop)]
 pub struct Layer<S, A> {
     pub below: S,
     pub(crate) setting: A,

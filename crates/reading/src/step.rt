@@ -1,4 +1,4 @@
-// A layer that shows the weight below it in steps.
+// A layer that shows the weight below it in steps of an interval.
 ghost use Rattle.std.specs.Prelude.{◌≡◌, ℕ, Ok};
 ghost use Rattle.reading.specs.Drops.{dropped};
 ghost use Rattle.reading.specs.OfStep.{step_answers, step_setting, stepped};

@@ -12,7 +12,7 @@ use crate::refusal::SettingRefusal;
 use crate::source::ReadingSource;
 use weight::Weight;
 
-// A tare for each channel: that of channel k stands at index k - 1.
+// The tares of the channels: that of channel k stands at index k - 1.
 #[derive(Clone, Copy, PartialEq, Eq, Debug)]
 pub struct Tares {
     each: [Weight; 64],
@@ -40,6 +40,7 @@ impl Default for Tares {
     }
 }
 
+// Each channel has its own tare.
 pub type Tare<S> = Layer<S, Tares>;
 
 impl Adjustment for Tares {
