@@ -63,7 +63,7 @@ pub enum ParseError {
     Memory(AllocError),
 }
 
-// What lies on a channel.
+// What lies on a channel. It has its grams at rest and moving, so the mark stands beside them.
 #[derive(Clone, Copy, PartialEq, Eq, Debug)]
 pub struct Load {
     pub channel: u32,
