@@ -44,7 +44,8 @@ impl Spot {
 
     // Past the token.
     pub(crate) fn past(self, text: &[u8]) -> Spot
-        requires { (Fit text.now self) × (IsToken self.look.kind) }
+        requires fit { Fit text.now self }
+        requires token { IsToken self.look.kind }
         ensures { Passes text.now self result }
     {
         Spot {
@@ -55,7 +56,8 @@ impl Spot {
 
     // Past a token of a kind, which has to stand there.
     pub(crate) fn expect(self, text: &[u8], kind: Kind) -> Result<Spot, Refusal>
-        requires { (Fit text.now self) × (IsToken kind) }
+        requires fit { Fit text.now self }
+        requires token { IsToken kind }
         ensures { Expects text.now self kind result }
     {
         if self.look.kind == kind {
@@ -67,7 +69,8 @@ impl Spot {
 
     // Past a token that stands for a construct.
     pub(crate) fn construct(self, text: &[u8]) -> Result<Spot, Refusal>
-        requires { (Fit text.now self) × (IsToken self.look.kind) }
+        requires fit { Fit text.now self }
+        requires token { IsToken self.look.kind }
         ensures { Counts text.now self result }
     {
         if self.count < 2000 {

@@ -54,7 +54,8 @@ impl<'t> Descent<'t, '_> {
         scope: &mut Scope<'t>,
         image: &mut [u32],
     ) -> Result<Spot, Refusal>
-        requires { (Ready self.now here.now level scope.old.items) × (AtKind here.now (WordKind LetWord)) }
+        requires ready { Ready self.now here.now level scope.old.items }
+        requires kind { AtKind here.now (WordKind LetWord) }
         ensures goes { Descends an_expr from_expr self.now scope.old.items here.now level image.old result image.new }
         ensures kept { scope.new ≡ scope.old }
     {
@@ -86,7 +87,8 @@ impl<'t> Descent<'t, '_> {
         scope: &mut Scope<'t>,
         image: &mut [u32],
     ) -> Result<Spot, Refusal>
-        requires { (Ready self.now here.now level scope.old.items) × (AtKind here.now (WordKind IfpWord)) }
+        requires ready { Ready self.now here.now level scope.old.items }
+        requires kind { AtKind here.now (WordKind IfpWord) }
         ensures goes { Descends an_expr from_expr self.now scope.old.items here.now level image.old result image.new }
         ensures kept { scope.new ≡ scope.old }
     {
@@ -194,7 +196,8 @@ impl<'t> Descent<'t, '_> {
         scope: &Scope<'t>,
         image: &mut [u32],
     ) -> Result<Spot, Refusal>
-        requires { (Ready self.now here.now level scope.now.items) × (AtKind here.now (WordKind WeighWord)) }
+        requires ready { Ready self.now here.now level scope.now.items }
+        requires kind { AtKind here.now (WordKind WeighWord) }
         ensures { Descends an_atom from_atom self.now scope.now.items here.now level image.old result image.new }
     {
         let after = here.construct(self.text)?;
@@ -218,7 +221,8 @@ impl<'t> Descent<'t, '_> {
         scope: &mut Scope<'t>,
         image: &mut [u32],
     ) -> Result<Spot, Refusal>
-        requires { (Ready self.now here.now level scope.old.items) × (AtKind here.now (WordKind OpenWord)) }
+        requires ready { Ready self.now here.now level scope.old.items }
+        requires kind { AtKind here.now (WordKind OpenWord) }
         ensures goes { Descends an_atom from_atom self.now scope.old.items here.now level image.old result image.new }
         ensures kept { scope.new ≡ scope.old }
     {
@@ -237,7 +241,8 @@ impl<'t> Descent<'t, '_> {
         scope: &mut Scope<'t>,
         image: &mut [u32],
     ) -> Result<Spot, Refusal>
-        requires { (Ready self.now here.now level scope.old.items) × (AtKind here.now NameKind) }
+        requires ready { Ready self.now here.now level scope.old.items }
+        requires kind { AtKind here.now NameKind }
         ensures goes { Descends an_atom from_atom self.now scope.old.items here.now level image.old result image.new }
         ensures kept { scope.new ≡ scope.old }
     {

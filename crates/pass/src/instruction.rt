@@ -15,7 +15,7 @@ pub(crate) enum Instruction {
     Out,
     Unless(u16),
     Go(u16),
-    Call(u16, u16),
+    Call { arity: u16, target: u16 },
     Back,
     Weigh(u32),
     Function(u16),
@@ -37,7 +37,7 @@ impl Instruction {
             Instruction::Out => word(3, 0),
             Instruction::Unless(target) => word(4, target as u32),
             Instruction::Go(target) => word(5, target as u32),
-            Instruction::Call(arity, target) => word(6, arity as u32 * 65536 + target as u32),
+            Instruction::Call { arity, target } => { word(6, arity as u32 * 65536 + target as u32) }
             Instruction::Back => word(7, 0),
             Instruction::Weigh(channel) => word(8, channel),
             Instruction::Function(arity) => word(10, arity as u32),
@@ -47,7 +47,8 @@ impl Instruction {
 
 // A word: its kind, and its operand in the low 28 bits.
 fn word(kind: u32, operand: u32) -> u32
-    requires { (kind ≤ 10) × (operand ≤ 268435455) }
+    requires kind { kind ≤ 10 }
+    requires operand { operand ≤ 268435455 }
     ensures { result ≡ word_of kind operand }
 {
     kind * 268435456 + operand

@@ -110,12 +110,21 @@ impl Descent<'_, '_> {
         match function_of(self.functions, here.spelling(self.text)) {
             Some(f) => {
                 let fault = (f.arity != given).then_some(here.refused(Cause::ArgumentCount));
-                out.note(fault)
-                    .emit(image, Instruction::Call(given as u16, f.target))
+                out.note(fault).emit(
+                    image,
+                    Instruction::Call {
+                        arity: given as u16,
+                        target: f.target,
+                    },
+                )
             }
-            None => out
-                .note(Some(here.refused(Cause::UnknownName)))
-                .emit(image, Instruction::Call(given as u16, 0)),
+            None => out.note(Some(here.refused(Cause::UnknownName))).emit(
+                image,
+                Instruction::Call {
+                    arity: given as u16,
+                    target: 0,
+                },
+            ),
         }
     }
 }

@@ -15,7 +15,7 @@ pub(crate) struct Output {
 }
 
 // The earlier of two faults; at one place, the smaller cause.
-fn sooner_of(first: Refusal, other: Refusal) -> Refusal
+fn earlier(first: Refusal, other: Refusal) -> Refusal
     ensures { result ≡ sooner first other }
 {
     if (first.place, first.cause.number()) <= (other.place, other.cause.number()) {
@@ -49,7 +49,8 @@ impl Output {
 
     // One word more.
     pub(crate) fn emit(self, image: &mut [u32], instruction: Instruction) -> Output
-        requires { (self.at ≤ 8192) × (Holds instruction) }
+        requires room { self.at ≤ 8192 }
+        requires holds { Holds instruction }
         ensures made { result ≡ emitted self }
         ensures written { image.new ≡ slice_set image.old self.at (word_for instruction) }
     {
@@ -59,7 +60,9 @@ impl Output {
 
     // A word that puts a value on the frame, which holds some before.
     pub(crate) fn push(self, held: usize, image: &mut [u32], instruction: Instruction) -> Output
-        requires { (self.at ≤ 8192) × (held ≤ 4000) × (Holds instruction) }
+        requires room { self.at ≤ 8192 }
+        requires few { held ≤ 4000 }
+        requires holds { Holds instruction }
         ensures made { result ≡ pushed held self }
         ensures written { image.new ≡ slice_set image.old self.at (word_for instruction) }
     {
@@ -73,7 +76,7 @@ impl Output {
     {
         match fault {
             Some(other) => Output {
-                fault: Some(self.fault.map_or(other, |first| sooner_of(first, other))),
+                fault: Some(self.fault.map_or(other, |first| earlier(first, other))),
                 ..self
             },
             None => self,

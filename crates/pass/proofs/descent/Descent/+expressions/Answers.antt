@@ -98,12 +98,12 @@ binding-returns-clause-goes t c =
     let k = c.in_ok-within.ensures.kept in
     let w = c.in_ok-body.ensures in
     let r = rw (c.holding.ensures, i.1) at c.in_ok-last.ensures.goes in
-    let d = past_kind c.requires.1 e.0 in
+    let d = past_kind c.requires.kind e.0 in
     let o = q.0.out ∙ (n.0.out ∙ e.0.out) in
     let x = ident text c.in_ok-named.named.look in
     let known = inner_env functions _ x.name k c.push.ensures.items c.spelling.ensures in
     record {
-      on = further c.requires.0.0 c.in_ok-last.last r.on.fit (omega (arith, e.0.far, n.0.far, q.0.far, v.on.far, w.0.far, r.on.far)) (omega (arith, e.1, n.1, q.1, v.on.more, w.1, r.on.more)) _
+      on = further c.requires.ready.0 c.in_ok-last.last r.on.fit (omega (arith, e.0.far, n.0.far, q.0.far, v.on.far, w.0.far, r.on.far)) (omega (arith, e.1, n.1, q.1, v.on.more, w.1, r.on.more)) _
           (omega (arith, e.1, n.1, q.1, at_of o, v.on.slow, w.1, at_of w.0.out, r.on.slow, at_of c.emit.ensures.made));
       read = let_read (length text) x d i.0 e.1 e.0.fit.1 n.0.token q.0.token (q.1 ∙ n.1) v.read w.0.token v.on.fit.1 w.1 r.read;
       made = made_let x (from Made o v.made) (from Made w.0.out (knowing known r.made)) c.emit.ensures.made c.emit.ensures.written;
@@ -121,7 +121,7 @@ binding-returns-in_err-last-clause-goes t c =
     let x = ident text c.in_ok-named.named.look in
     let b = rw (c.holding.ensures, i.1) at c.in_err-last.ensures.goes in
     exit _ _ _ c.from_residual-in_err-last.ensures.1
-    (let_bad (length text) x (past_kind c.requires.1 e.0) i.0 e.1 e.0.fit.1 n.0.token q.0.token (q.1 ∙ n.1) v.read w.0.token v.on.fit.1 w.1 b)
+    (let_bad (length text) x (past_kind c.requires.kind e.0) i.0 e.1 e.0.fit.1 n.0.token q.0.token (q.1 ∙ n.1) v.read w.0.token v.on.fit.1 w.1 b)
 
 pub bracketed-returns-clause-goes : goal.bracketed-returns-clause-goes
 unfolding bracket_read
@@ -130,15 +130,15 @@ bracketed-returns-clause-goes t c =
     let i = c.in_ok-deeper.ensures in
     let p = c.past-inner.ensures in
     let x = rw i.1 at c.in_ok-within.ensures.goes in
-    let d = past_kind c.requires.1 p.0 in
+    let d = past_kind c.requires.kind p.0 in
     MatchResult-weaker c.expect.result c.expect.ensures
     (λ s r. record {
-      on = further c.requires.0.0 s r.0.fit (omega (arith, p.0.far, x.on.far, r.0.far)) (omega (arith, p.1, x.on.more, r.1)) _
+      on = further c.requires.ready.0 s r.0.fit (omega (arith, p.0.far, x.on.far, r.0.far)) (omega (arith, p.1, x.on.more, r.1)) _
           (omega (arith, p.1, at_of p.0.out, x.on.slow, r.1, at_of r.0.out));
-      read = bracket_read (length text) d c.requires.0.0.1 i.0 p.1 x.read r.0.token x.on.fit.1 r.1;
+      read = bracket_read (length text) d c.requires.ready.0.1 i.0 p.1 x.read r.0.token x.on.fit.1 r.1;
       made = made_group (to Made r.0.out (from Made p.0.out x.made));
     })
-    (λ e r. rw (r.0.0, r.0.1) (bracket_bad (length text) d c.requires.0.0.1 i.0 p.1 x.read r.1))
+    (λ e r. rw (r.0.0, r.0.1) (bracket_bad (length text) d c.requires.ready.0.1 i.0 p.1 x.read r.1))
 
 pub chain-loop-op-preserved : goal.chain-loop-op-preserved
 unfolding chain_more
@@ -203,7 +203,7 @@ choice-returns-in_err-other-clause-goes t c =
     let v = rw i.1 at c.in_ok-then.ensures.goes in
     let h = c.in_ok-branch.ensures in
     let b = rw i.1 at c.in_err-other.ensures.goes in
-    exit _ _ _ c.from_residual-in_err-other.ensures.1 (ifp_first_bad (length text) (past_kind c.requires.1 e.0) i.0 e.1 e.0.fit.1 v.read h.0.token v.on.fit.1 h.1 b)
+    exit _ _ _ c.from_residual-in_err-other.ensures.1 (ifp_first_bad (length text) (past_kind c.requires.kind e.0) i.0 e.1 e.0.fit.1 v.read h.0.token v.on.fit.1 h.1 b)
 
 pub choice-returns-in_err-jump-clause-goes : goal.choice-returns-in_err-jump-clause-goes
 choice-returns-in_err-jump-clause-goes t c =
@@ -215,7 +215,7 @@ choice-returns-in_err-jump-clause-goes t c =
     let y = rw i.1 at c.in_ok-other.ensures.goes in
     let b = c.in_err-jump.ensures in
     exit _ _ _ c.from_residual-in_err-jump.ensures.1
-    (rw (b.0.0, b.0.1) (ifp_else_bad (length text) (past_kind c.requires.1 e.0) i.0 e.1 e.0.fit.1 v.read h.0.token v.on.fit.1 h.1 y.read b.1))
+    (rw (b.0.0, b.0.1) (ifp_else_bad (length text) (past_kind c.requires.kind e.0) i.0 e.1 e.0.fit.1 v.read h.0.token v.on.fit.1 h.1 y.read b.1))
 
 pub choice-returns-clause-goes : goal.choice-returns-clause-goes
 unfolding ifp_read
@@ -234,9 +234,9 @@ choice-returns-clause-goes t c =
     let o₁ = c.skip.ensures ∙ ap emitted h.0.out in
     let o₂ = c.skip-2.ensures ∙ ap emitted w.0.out in
     record {
-      on = further c.requires.0.0 c.in_ok-last.last r.on.fit (omega (arith, e.0.far, v.on.far, h.0.far, y.on.far, w.0.far, r.on.far)) (omega (arith, e.1, v.on.more, h.1, y.on.more, w.1, r.on.more)) _
+      on = further c.requires.ready.0 c.in_ok-last.last r.on.fit (omega (arith, e.0.far, v.on.far, h.0.far, y.on.far, w.0.far, r.on.far)) (omega (arith, e.1, v.on.more, h.1, y.on.more, w.1, r.on.more)) _
           (omega (arith, e.1, at_of e.0.out, v.on.slow, h.1, at_of o₁, y.on.slow, w.1, at_of o₂, r.on.slow));
-      read = ifp_read (length text) (past_kind c.requires.1 e.0) i.0 e.1 e.0.fit.1 v.read h.0.token v.on.fit.1 h.1 y.read w.0.token y.on.fit.1 w.1 r.read;
+      read = ifp_read (length text) (past_kind c.requires.kind e.0) i.0 e.1 e.0.fit.1 v.read h.0.token v.on.fit.1 h.1 y.read w.0.token y.on.fit.1 w.1 r.read;
       made = made_ifp (from Made e.0.out v.made) o₁ y.made o₂ c.put.ensures h.0.out r.made c.put-2.ensures w.0.out;
     }
 
@@ -251,7 +251,7 @@ choice-returns-in_err-last-clause-goes t c =
     let w = c.in_ok-jump.ensures in
     let b = rw i.1 at c.in_err-last.ensures.goes in
     exit _ _ _ c.from_residual-in_err-last.ensures.1
-    (ifp_bad (length text) (past_kind c.requires.1 e.0) i.0 e.1 e.0.fit.1 v.read h.0.token v.on.fit.1 h.1 y.read w.0.token y.on.fit.1 w.1 b)
+    (ifp_bad (length text) (past_kind c.requires.kind e.0) i.0 e.1 e.0.fit.1 v.read h.0.token v.on.fit.1 h.1 y.read w.0.token y.on.fit.1 w.1 b)
 
 pub expression-returns-in_default-clause-goes : goal.expression-returns-in_default-clause-goes
 expression-returns-in_default-clause-goes t c =
@@ -278,9 +278,9 @@ named-returns-in_ok-given-clause-goes t c =
     let e = past_kind {k = WordKind Open} (grind arith) p.0 in
     let o = p.0.out ∙ a.0.out in
     record {
-      on = further c.requires.0.0 c.in_ok-given.given.next r.on.fit (omega (arith, a.0.far, p.0.far, r.on.far)) (omega (arith, a.1, p.1, r.on.more)) _
+      on = further c.requires.ready.0 c.in_ok-given.given.next r.on.fit (omega (arith, a.0.far, p.0.far, r.on.far)) (omega (arith, a.1, p.1, r.on.more)) _
           (omega (arith, a.1, p.1, at_of o, r.on.slow, at_of c.call-out.ensures.made));
-      read = call_read (length text) _ (past_kind c.requires.1 a.0) a.1 a.0.fit.1 e i.0 p.1 r.read;
+      read = call_read (length text) _ (past_kind c.requires.kind a.0) a.1 a.0.fit.1 e i.0 p.1 r.read;
       made = made_call (ident text l) (from MadeAll o r.made) g.counted c.call-out.ensures.made c.call-out.ensures.written;
     }
 
@@ -291,7 +291,7 @@ named-returns-else-eq-clause-goes t c =
     let a = c.in_ok-after.ensures in
     let m = c.in_ok-after.after.look in
     record {
-      on = further c.requires.0.0 c.in_ok-after.after a.0.fit a.0.far (omega (arith, a.1)) _ (omega (arith, a.1, at_of c.load-out.ensures.made, at_of a.0.out));
-      read = name_read (length text) _ (past_kind c.requires.1 a.0) a.1 a.0.fit.1 (other text Open m.kind m.start m.end (grind arith));
+      on = further c.requires.ready.0 c.in_ok-after.after a.0.fit a.0.far (omega (arith, a.1)) _ (omega (arith, a.1, at_of c.load-out.ensures.made, at_of a.0.out));
+      read = name_read (length text) _ (past_kind c.requires.kind a.0) a.1 a.0.fit.1 (other text Open m.kind m.start m.end (grind arith));
       made = from Made a.0.out (made_var (ident text c.args.here.now.look) (rw c.deref.ensures.0 at c.load-out.ensures.made) (rw c.deref.ensures.0 at c.load-out.ensures.written));
     }
