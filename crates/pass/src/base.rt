@@ -20,6 +20,7 @@ impl Base {
         Some(Base { index })
     }
 
+    // Where the words begin.
     pub fn index(self) -> usize
         ensures { result ≡ self.index }
     {
@@ -27,6 +28,7 @@ impl Base {
     }
 }
 
+// The beginning of the image, for a pass that writes nothing.
 impl Default for Base {
     ghost is_default = { λ b. b.index ≡ 0 };
 
