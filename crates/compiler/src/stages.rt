@@ -6,7 +6,7 @@ ghost use Rattle.recipe.specs.Theorem.{Meaning};
 ghost use Rattle.compiler.specs.Stages.{Admits, Checks, Judges, Plans, Planned, Translates, Written};
 
 use lexer::{Kind, next_token};
-use pass::{Base, Pass, over};
+use pass::{Base, Pass};
 use recipe::{Cause, Refusal};
 
 const LONGEST_TEXT: usize = 60_000;
@@ -70,8 +70,8 @@ pub(crate) fn judge(found: &Pass) -> Result<(), Refusal>
 pub(crate) fn plan(text: &[u8]) -> Result<Pass<'_>, Refusal>
     ensures { Plans text.now result }
 {
-    let first = over(text, &[], Base::default(), &mut [])?;
-    let second = over(text, &first.functions, first.past_main, &mut [])?;
+    let first = Base::default().over(text, &[], &mut [])?;
+    let second = first.past_main.over(text, &first.functions, &mut [])?;
     judge(&second)?;
     Ok(second)
 }
@@ -89,7 +89,7 @@ pub(crate) fn write(text: &[u8], plan: &Pass, image: &mut [u32]) -> Result<(), R
     requires { (Planned text.now plan.now) × (4096 ≤ length image.old) }
     ensures { Written text.now image.old result image.new }
 {
-    over(text, &plan.functions, plan.past_main, image)?;
+    plan.past_main.over(text, &plan.functions, image)?;
     put_head(image, plan.past_functions);
     Ok(())
 }

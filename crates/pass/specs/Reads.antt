@@ -405,3 +405,8 @@ pub record Passed (text : List ℕ) (functions : List Function) (base : ℕ) (m 
 abbrev pub GoesRecipe : List ℕ → List Function → ℕ → List ℕ → Result Pass Refusal → List ℕ → Type 0
 GoesRecipe text functions base m r m' =
     MatchResult r (λ p. Passed text functions base m p m') (λ e. reading (length text) start 0 (tokens text) ≡ wrong (cause_number e.cause) e.place)
+
+-- A pass from any index; or none, and nothing is written, where the functions' words would begin beyond 4,036.
+abbrev pub GoesOver : List ℕ → List Function → ℕ → List ℕ → Option (Result Pass Refusal) → List ℕ → Type 0
+GoesOver text functions base m None m' = (4036 < base) × (m' ≡ m)
+GoesOver text functions base m (Some r) m' = GoesRecipe text functions base m r m'

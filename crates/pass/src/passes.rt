@@ -1,7 +1,7 @@
 // A pass over a whole recipe: its declarations, and its main expression.
 ghost use Rattle.std.specs.Prelude.{◌≡◌, ◌+◌, ◌*◌, ◌≤◌, length};
 ghost use Rattle.pass.specs.Outputs.{over_with};
-ghost use Rattle.pass.specs.Reads.{Fit, Takes, GoesHead, Limited, DeclarationsOn, GoesDeclaration, GoesDeclarations, GoesRecipe};
+ghost use Rattle.pass.specs.Reads.{Fit, Takes, GoesHead, Limited, DeclarationsOn, GoesDeclaration, GoesDeclarations, GoesRecipe, GoesOver};
 
 use crate::base::Base;
 use crate::cursor::{Level, Spot};
@@ -170,37 +170,51 @@ impl<'t> Descent<'t, '_> {
     }
 }
 
-// One pass over a recipe. The main expression's words begin at 1, after the head, and the functions' at `base`.
+impl Base {
+    // One pass over a recipe. The main expression's words begin at 1, after the head, and the functions' at the base.
+    pub fn over<'t>(
+        self,
+        text: &'t [u8],
+        functions: &[Function<'t>],
+        image: &mut [u32],
+    ) -> Result<Pass<'t>, Refusal>
+        ensures { GoesRecipe text.now functions.now self.index image.old result image.new }
+    {
+        let descent = Descent { text, functions };
+        let heads = descent.declarations(self, image)?;
+        let within = heads.next.expect(text, Kind::Word(Word::In))?;
+        let main = Spot {
+            out: Output {
+                at: 1,
+                peak: 0,
+                ..within.out
+            },
+            ..within
+        };
+        let level = Level { depth: 0, held: 0 };
+        let last = descent.expression(&main, level, &mut Scope::new(), image)?;
+        if last.look.kind != Kind::End {
+            return Err(last.refused(Cause::Grammar));
+        }
+        let out = last.out.emit(image, Instruction::Back);
+        Ok(Pass {
+            past_functions: heads.next.out.at,
+            past_main: Base { index: out.at },
+            fault: out.fault,
+            over: first_over(heads.over, out.peak, heads.next.look.start),
+            functions: heads.functions,
+        })
+    }
+}
+
+// The same from any index; None, and nothing is written, where the functions' words would begin beyond 4,036.
 pub fn over<'t>(
     text: &'t [u8],
     functions: &[Function<'t>],
-    base: Base,
+    base: usize,
     image: &mut [u32],
-) -> Result<Pass<'t>, Refusal>
-    ensures { GoesRecipe text.now functions.now base.index image.old result image.new }
+) -> Option<Result<Pass<'t>, Refusal>>
+    ensures { GoesOver text.now functions.now base image.old result image.new }
 {
-    let descent = Descent { text, functions };
-    let heads = descent.declarations(base, image)?;
-    let within = heads.next.expect(text, Kind::Word(Word::In))?;
-    let main = Spot {
-        out: Output {
-            at: 1,
-            peak: 0,
-            ..within.out
-        },
-        ..within
-    };
-    let level = Level { depth: 0, held: 0 };
-    let last = descent.expression(&main, level, &mut Scope::new(), image)?;
-    if last.look.kind != Kind::End {
-        return Err(last.refused(Cause::Grammar));
-    }
-    let out = last.out.emit(image, Instruction::Back);
-    Ok(Pass {
-        past_functions: heads.next.out.at,
-        past_main: Base { index: out.at },
-        fault: out.fault,
-        over: first_over(heads.over, out.peak, heads.next.look.start),
-        functions: heads.functions,
-    })
+    Some(Base::new(base)?.over(text, functions, image))
 }

@@ -9,7 +9,7 @@ use Rattle.pass.proofs.Makes.{fault_of}
 use Rattle.pass.proofs.Tables.{frames_over}
 use Rattle.pass.proofs.Spots.{exit}
 use Rattle.pass.proofs.Recipes.{main_made}
-use Rattle.pass.proofs.passes.over.Goals as goal
+use Rattle.pass.proofs.base.Base.over.Goals as goal
 
 pub returns-in_err-within : goal.returns-in_err-within
 returns-in_err-within c =
@@ -35,7 +35,7 @@ returns c =
     let d = g.1 in
     let ds = all d.read.declared in
     let e = r.read.tree in
-    let m = main_made c.args.base.index c.args.image.now ds e (ap (λ vs. env c.args.functions.now vs) c.new.ensures) refl refl (fault_of w.0.out ∙ d.made.fault) d.made.written
+    let m = main_made c.args.self.index c.args.image.now ds e (ap (λ vs. env c.args.functions.now vs) c.new.ensures) refl refl (fault_of w.0.out ∙ d.made.fault) d.made.written
     r.made c.emit-out.ensures.made c.emit-out.ensures.written refl in
     record {
       declared = d.read.declared;
