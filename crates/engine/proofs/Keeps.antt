@@ -1,5 +1,6 @@
 -- What a word comes to stays within its frame.
-use Rattle.std.proofs.Common.{◌≡◌, ℕ, List, Ok, Err, Result, subst, arith}
+use Rattle.std.proofs.Common.{◌≡◌, ℕ, ltb, List, get_or, Ok, Err, Result, subst, arith}
+use Rattle.std.proofs.lemmas.Bool.{cond_both}
 use Rattle.std.proofs.lemmas.Bool.Decides.{nat_tests}
 use Rattle.arithmetic.specs.Rules.{Rules}
 use Rattle.reading.specs.Answers.{Reading}
@@ -9,7 +10,8 @@ use Rattle.machine.specs.declared.types.Instruction.{Instruction}
 use Rattle.machine.specs.declared.types.Instruction.TheVariants.{Num, Var, Op, Out, Unless, Go, Call, Back, Weigh, Bad}
 use Rattle.machine.specs.declared.types.Registers.{Registers}
 use Rattle.machine.specs.declared.types.Return.{Return}
-use Rattle.machine.specs.Steps.{Sound, frame_room, plan}
+use Rattle.machine.specs.Words.{decoded}
+use Rattle.machine.specs.Steps.{Sound, frame_room, plan, planned}
 use Rattle.engine.specs.Frames.{Fair}
 
 abbrev AllFair : {V : Type 0} → Registers → Result (Effect V) Fault → Type 0
@@ -29,5 +31,6 @@ module _ {V : Type 0} (rules : Rules V) (held : ℕ → Reading) (count : ℕ) (
   all_fair ok (Weigh n) = grind (arith, nat_tests)
   all_fair ok Bad = tt
 
-  pub fair_plan : (i : Instruction) (e : Effect V) → Sound frame_room m → plan frame_room rules held count m frame t i ≡ Ok e → Fair m e
-  fair_plan i e ok p = subst (AllFair m) p (all_fair ok i)
+  pub fair_planned : (image : List ℕ) (e : Effect V) → Sound frame_room m → planned frame_room rules held count image m frame t ≡ Ok e → Fair m e
+  fair_planned image e ok p =
+      subst (AllFair m) p (cond_both (ltb m.index count) _ _ (AllFair m) (λ _. all_fair ok (decoded (get_or image m.index 0))) (λ _. tt))

@@ -1,5 +1,5 @@
 -- What a run's readings are, and what an instruction comes to in a frame.
-use Rattle.std.specs.Prelude.{ℕ, ◌-◌, ◌<◌, List, Err, Result, slice_index_or}
+use Rattle.std.specs.Prelude.{◌≡◌, ℕ, ◌-◌, ◌<◌, List, Err, Result, slice_index_or}
 use Rattle.arithmetic.specs.Rules.{Rules}
 use Rattle.reading.specs.Answers.{Reading, grams_of}
 use Rattle.reading.specs.declared.fault.ReadingFault.{ReadingFault}
@@ -12,6 +12,7 @@ use Rattle.machine.specs.declared.types.Instruction.{Instruction}
 use Rattle.machine.specs.declared.types.Registers.{Registers}
 use Rattle.machine.specs.Steps.{Sound, deepest, frame_room, plan}
 use Rattle.engine.specs.declared.frame.Frame.{Frame}
+use Rattle.engine.specs.declared.memory.Memory.{Memory}
 
 -- the reading of a channel, channel 1 first
 abbrev pub held_at : List (Result Weight ReadingFault) → ℕ → Reading
@@ -27,3 +28,7 @@ Fair m (Put n p v) = (p < frame_room) × Sound frame_room n
 Fair m (Move n) = Sound frame_room n
 Fair m (Enter n e) = (m.nesting < deepest) × Sound frame_room n
 Fair m (End n v) = Sound frame_room n
+
+-- what is lent is the same memory as before
+abbrev pub IsSameLoan : {V : Type 0} → Memory V → Memory V → Type 0
+IsSameLoan a b = (b.stack.ghost_name ≡ a.stack.ghost_name) × (b.returns.ghost_name ≡ a.returns.ghost_name)

@@ -4,13 +4,13 @@ ghost use Rattle.std.specs.Option.{option_map};
 ghost use Rattle.machine.specs.declared.types.Status.TheVariants.{Going};
 ghost use Rattle.machine.specs.Steps.{Sound, frame_room};
 ghost use Rattle.machine.specs.Runs.{cost as cost_of, granted, scene, status_after};
-ghost use Rattle.engine.specs.Frames.{held_at};
+ghost use Rattle.engine.specs.Frames.{IsSameLoan, held_at};
 ghost use Rattle.engine.specs.Courses.{advanced, begun_course, course, course_of, left, too_short};
 ghost use Rattle.engine.specs.Loops.{run_after, run_at, standing, stops};
 
 use crate::frame::Held;
+use crate::memory::{Memory, Program};
 use crate::run::Run;
-use crate::step::step;
 use arithmetic::Arithmetic;
 use machine::{EngineFault, Fault, Registers, Return, RunFault, Status, head_count};
 
@@ -131,6 +131,27 @@ impl Run {
     }
 
     // The run after its granted steps, where it goes on before them.
+    fn make_steps<N: Arithmetic>(self, program: &Program, memory: &mut Memory<N>, grant: u64) -> Run
+        requires going { self.status ≡ Going }
+        requires count { program.now.count ≡ self.count }
+        requires stands { memory.old.registers ≡ self.registers }
+        ensures loan { IsSameLoan memory.old memory.new }
+        ensures does { scene (course_of result).run memory.new.stack.now memory.new.returns.now
+            ≡ granted frame_room N.Arithmetic.rules (held_at program.now.held.now) self.count program.now.image.now grant
+            (scene (course_of self).run memory.old.stack.now memory.old.returns.now) }
+        ensures count { result.count ≡ self.count }
+    {
+        let most = grant.min(self.allowance - self.used);
+        for made in 0..most {
+            let answer = memory.step(program);
+            if stops(answer) {
+                return self.stopped(memory.registers, made, answer);
+            }
+        }
+        self.moved(memory.registers, most)
+    }
+
+    // The same, in the memory that is lent.
     fn go_on<N: Arithmetic>(
         self,
         image: &[u32],
@@ -147,15 +168,17 @@ impl Run {
             ≡ granted frame_room N.Arithmetic.rules (held_at held.now) self.count image.now grant (scene (course_of self).run stack.old returns.old) }
         ensures count { result.count ≡ self.count }
     {
-        let most = grant.min(self.allowance - self.used);
-        let mut m = self.registers;
-        for made in 0..most {
-            let answer = step(image, self.count, held, &mut m, stack, returns);
-            if stops(answer) {
-                return self.stopped(m, made, answer);
-            }
-        }
-        self.moved(m, most)
+        let program = Program {
+            image,
+            count: self.count,
+            held,
+        };
+        let mut memory = Memory {
+            registers: self.registers,
+            stack,
+            returns,
+        };
+        self.make_steps(&program, &mut memory, grant)
     }
 
     // Makes as many steps as are granted, fewer only where the run or its allowance ends, and tells how the run stands

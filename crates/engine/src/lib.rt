@@ -3,6 +3,7 @@
 
 mod advance;
 mod frame;
+mod memory;
 mod run;
 mod step;
 mod words;

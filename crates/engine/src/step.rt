@@ -1,83 +1,75 @@
 // One step of a run.
-ghost use Rattle.std.specs.Prelude.{◌≡◌, ◌≤◌, length, Ok};
-ghost use Rattle.machine.specs.Steps.{Sound, carried, frame_room, stepped, step as step_of};
-ghost use Rattle.engine.specs.Frames.{Fair, held_at};
+ghost use Rattle.std.specs.Prelude.{◌≡◌, drop, Ok};
+ghost use Rattle.machine.specs.Steps.{carried, frame_room, planned, stepped, step as step_of};
+ghost use Rattle.engine.specs.Frames.{Fair, IsSameLoan, held_at};
 
-use crate::frame::{Frame, Held};
+use crate::frame::Frame;
+use crate::memory::{Memory, Program};
 use crate::words::IMPOSSIBLE;
 use arithmetic::Arithmetic;
-use machine::{Effect, Fault, Instruction, Registers, Return};
+use machine::{Effect, Fault, Instruction};
 
-// Writes what a word comes to.
-fn carry<N: Arithmetic>(
-    effect: Effect<N>,
-    m: &mut Registers,
-    stack: &mut [N],
-    returns: &mut [Return],
-) -> Option<i32>
-    requires fair { Fair m.old effect }
-    requires sound { Sound frame_room m.old }
-    requires room { 4128 ≤ length stack.old }
-    requires table { 128 ≤ length returns.old }
-    ensures does { stepped (Ok result) m.new stack.new returns.new
-        ≡ carried N.Arithmetic.rules m.old stack.old returns.old (Ok effect) }
-    ensures sound { Sound frame_room m.new }
-{
-    match effect {
-        Effect::Put(next, place, value) => {
-            let top = m.base + place;
-            stack[top] = value;
-            *m = next;
-            None
-        }
-        Effect::Move(next) => {
-            *m = next;
-            None
-        }
-        Effect::Enter(next, entry) => {
-            let nesting = m.nesting;
-            returns[nesting] = entry;
-            *m = next;
-            None
-        }
-        Effect::End(next, value) => {
-            let base = m.base;
-            let shown = value.shown();
-            stack[base] = value;
-            *m = next;
-            Some(shown)
+impl<N: Arithmetic> Memory<'_, N> {
+    // Writes what a word comes to, and tells the value of a run that it ends.
+    fn carry(&mut self, effect: Effect<N>) -> Option<i32>
+        requires { Fair self.old.registers effect }
+        ensures loan { IsSameLoan self.old self.new }
+        ensures does { stepped (Ok result) self.new.registers self.new.stack.now self.new.returns.now
+            ≡ carried N.Arithmetic.rules self.old.registers self.old.stack.now self.old.returns.now (Ok effect) }
+    {
+        let m = self.registers;
+        match effect {
+            Effect::Put(next, place, value) => {
+                let top = m.base + place;
+                self.stack[top] = value;
+                self.registers = next;
+                None
+            }
+            Effect::Move(next) => {
+                self.registers = next;
+                None
+            }
+            Effect::Enter(next, entry) => {
+                self.returns[m.nesting] = entry;
+                self.registers = next;
+                None
+            }
+            Effect::End(next, value) => {
+                let shown = value.shown();
+                self.stack[m.base] = value;
+                self.registers = next;
+                Some(shown)
+            }
         }
     }
-}
 
-// Carries out the word at the run's index. What lies below the frame stays as it is, and a fault leaves all as it was.
-pub(crate) fn step<N: Arithmetic>(
-    image: &[u32],
-    count: usize,
-    held: &Held,
-    m: &mut Registers,
-    stack: &mut [N],
-    returns: &mut [Return],
-) -> Result<Option<i32>, Fault>
-    requires sound { Sound frame_room m.old }
-    requires image { (count ≤ 4096) × (count ≤ length image.now) }
-    requires room { 4128 ≤ length stack.old }
-    requires table { 128 ≤ length returns.old }
-    ensures does { stepped result m.new stack.new returns.new
-        ≡ step_of frame_room N.Arithmetic.rules (held_at held.now) count image.now m.old stack.old returns.old }
-    ensures sound { Sound frame_room m.new }
-{
-    if m.index >= count {
-        return Err(IMPOSSIBLE);
+    // What the word at the run's index comes to.
+    fn plan(&self, program: &Program) -> Result<Effect<N>, Fault>
+        ensures { result ≡ planned frame_room N.Arithmetic.rules (held_at program.now.held.now) program.now.count program.now.image.now
+            self.now.registers (drop self.now.registers.base self.now.stack.now) self.now.returns.now }
+    {
+        let registers = self.registers;
+        if registers.index >= program.count {
+            return Err(IMPOSSIBLE);
+        }
+        let frame = Frame {
+            registers,
+            values: &self.stack[registers.base..],
+            returns: &*self.returns,
+            held: program.held,
+            count: program.count,
+        };
+        frame.plan(Instruction::decode(program.image[registers.index]))
     }
-    let registers = *m;
-    let frame = Frame {
-        registers,
-        values: &stack[registers.base..],
-        returns: &*returns,
-        held,
-        count,
-    };
-    let effect = frame.plan(Instruction::decode(image[registers.index]))?;
-    Ok(carry(effect, m, stack, returns))
+
+    // Carries out the word at the run's index. What lies below the frame stays as it is, and a fault leaves all as it was.
+    pub(crate) fn step(&mut self, program: &Program) -> Result<Option<i32>, Fault>
+        ensures loan { IsSameLoan self.old self.new }
+        ensures does { stepped result self.new.registers self.new.stack.now self.new.returns.now
+            ≡ step_of frame_room N.Arithmetic.rules (held_at program.now.held.now) program.now.count program.now.image.now
+            self.old.registers self.old.stack.now self.old.returns.now }
+    {
+        let effect = self.plan(program)?;
+        Ok(self.carry(effect))
+    }
 }

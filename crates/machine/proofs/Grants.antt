@@ -31,7 +31,7 @@ module _ {V : Type 0} (room : ℕ) (rules : Rules V) (held : ℕ → Reading) (c
   granted_next n x = granted_add n 1 x
 
   stays : (s : Status) (x : Scene V) → is_going s ≡ false → turned_by room rules held count image s x ≡ x
-  stays Going x h = let z : ◌≡◌ {A = ℕ} 0 1 = cc in absurd (omega arith)
+  stays Going x h = cc
   stays Spent x h = refl
   stays (Ended grams) x h = refl
   stays (Failed f) x h = refl
@@ -62,8 +62,8 @@ module _ {V : Type 0} (rules : Rules V) (m : Registers) (s : List V) (t : List R
   below_carried (Err f) = refl
 
   pub fault_carried : (e : Result (Effect V) Fault) (f : Fault) → (carried rules m s t e).answer ≡ Err f → carried rules m s t e ≡ stepped (Err f) m s t
-  fault_carried (Ok (Put n p v)) f h = let z : ◌≡◌ {A = ℕ} 0 1 = cc in absurd (omega arith)
-  fault_carried (Ok (Move n)) f h = let z : ◌≡◌ {A = ℕ} 0 1 = cc in absurd (omega arith)
-  fault_carried (Ok (Enter n e)) f h = let z : ◌≡◌ {A = ℕ} 0 1 = cc in absurd (omega arith)
-  fault_carried (Ok (End n v)) f h = let z : ◌≡◌ {A = ℕ} 0 1 = cc in absurd (omega arith)
+  fault_carried (Ok (Put n p v)) f h = cc
+  fault_carried (Ok (Move n)) f h = cc
+  fault_carried (Ok (Enter n e)) f h = cc
+  fault_carried (Ok (End n v)) f h = cc
   fault_carried (Err g) f h = ap (λ (a : Result _ Fault). stepped a m s t) h

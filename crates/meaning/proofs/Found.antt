@@ -23,11 +23,11 @@ on v next a e = ap (λ u. next_stage u next) e
 -- a stage that is passed
 passed : {A B : Type 0} (v : Verdict A) (next : A → Verdict B) (b : B) → next_stage v next ≡ fine b → (a : A) × (v ≡ fine a) × (next a ≡ fine b)
 passed (fine a) next b e = (a, refl, e)
-passed (wrong c p) next b e = let z : ◌≡◌ {A = ℕ} 0 1 = cc in absurd (omega arith)
+passed (wrong c p) next b e = cc
 
 accepts : {A : Type 0} (v : Verdict A) (next : A → Answer) (ws : List ℕ) → then v next ≡ accepted ws → (a : A) × (v ≡ fine a) × (next a ≡ accepted ws)
 accepts (fine a) next ws e = (a, refl, e)
-accepts (wrong c p) next ws e = let z : ◌≡◌ {A = ℕ} 0 1 = cc in absurd (omega arith)
+accepts (wrong c p) next ws e = cc
 
 has : (text : List ℕ) (r : Recipe) → reading (length text) start 0 (tokens text) ≡ fine r → first_fault (recipe_faults r) ≡ fine tt → recipe_frames r ≡ fine tt → RecipeOf text r
 has text r e n f = record {

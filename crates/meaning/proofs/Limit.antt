@@ -1,5 +1,5 @@
 -- A larger limit on nested calls leaves every value as it is.
-use Rattle.std.proofs.Common.{◌≡◌, ℕ, zero, suc, ◌+◌, ◌≤◌, Bool, true, false, List, [], ◌∷◌, sym, refl, ap, ◌∙◌, subst, le_of_suc-le-suc, not-suc-le-zero, arith}
+use Rattle.std.proofs.Common.{◌≡◌, ℕ, zero, suc, ◌+◌, ◌≤◌, Bool, true, false, List, [], ◌∷◌, sym, refl, ap, ◌∙◌, subst, le_of_suc-le-suc, not-suc-le-zero}
 use Rattle.arithmetic.specs.Rules.{Rules}
 use Rattle.reading.specs.Answers.{Reading}
 use Rattle.recipe.specs.Grammar.{Expr, num, var, op, let_in, ifp, call, weigh, group, Arguments, one, more, Declaration, Recipe, recipe}
@@ -34,7 +34,7 @@ chosen_below false a b c d h k = k
 
 below_gives : {A : Type 0} (x y : Outcome A) (v : A) (n : ℕ) → Below x y → x ≡ gives v n → y ≡ gives v n
 below_gives (gives w m) y v n b e = b ∙ e
-below_gives (faults f m) y v n b e = let z : ◌≡◌ {A = ℕ} 0 1 = cc in absurd (omega arith)
+below_gives (faults f m) y v n b e = cc
 
 module _ {V : Type 0} (rules : Rules V) (held : ℕ → Reading) where
   module _ (φ ψ : List ℕ → ℕ → List V → Outcome V) (h : (f : List ℕ) (i : ℕ) (vs : List V) → Below (φ f i vs) (ψ f i vs)) where

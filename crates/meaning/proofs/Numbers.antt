@@ -1,6 +1,6 @@
 -- The numbers of a recipe are those of its tokens, which have 28 bits.
-use Rattle.std.proofs.Common.{◌≡◌, ℕ, ◌+◌, ◌<◌, Bool, true, false, cond, ◌||◌, eqb, leb, List, [], ◌∷◌, ◌++◌, length, codes, refl, arith}
-use Rattle.std.proofs.lemmas.Bool.{leb-true}
+use Rattle.std.proofs.Common.{ℕ, ◌+◌, ◌<◌, Bool, true, false, cond, ◌||◌, eqb, leb, List, [], ◌∷◌, ◌++◌, length, codes, arith}
+use Rattle.std.proofs.lemmas.Bool.{cond_both, leb-true}
 use Rattle.std.specs.Str.{bytes_eq}
 use Rattle.recipe.specs.Tokens.{Ident, Token, Number, Name, Operator, TheWord, Bad, blank, digit, letter, number_token, name_token, sign, Run, idle, digits}
 use Rattle.recipe.specs.Tokens.{letters, goes_on, ended, after, made, scan, tokens}
@@ -25,31 +25,24 @@ lows_append : (ts us : List Token) → Lows ts → Lows us → Lows (ts ++ us)
 lows_append [] us a b = b
 lows_append (t ∷ ts) us a b = (a.0, lows_append ts us a.1 b)
 
-low_cond : (b : Bool) (t u : Token) → Low t → Low u → Low (cond b t u)
-low_cond true t u h k = h
-low_cond false t u h k = k
-
-lows_cond : (b : Bool) (ts us : List Token) → Lows ts → Lows us → Lows (cond b ts us)
-lows_cond true ts us h k = h
-lows_cond false ts us h k = k
+-- what holds of both holds of either
+either : {A : Type 0} (P : A → Type 0) (b : Bool) (x y : A) → P x → P y → P (cond b x y)
+either P true x y h k = h
+either P false x y h k = k
 
 number_low : (p n : ℕ) → Low (number_token p n)
-number_low p n = by (leb n 268435455) refl
-  where
-    by : (b : Bool) → leb n 268435455 ≡ b → Low (cond b (Number (record { place = p; value = n })) (Bad p 3))
-    by true e = let h = leb-true n 268435455 e in omega arith
-    by false e = tt
+number_low p n = cond_both (leb n 268435455) _ _ Low (λ e. let h = leb-true n 268435455 e in omega arith) (λ e. tt)
 
 name_low : (p : ℕ) (s : List ℕ) → Low (name_token p s)
 name_low p s =
-    low_cond (bytes_eq s (codes "let")) _ _ tt (low_cond (bytes_eq s (codes "in")) _ _ tt (low_cond (bytes_eq s (codes "ifp")) _ _ tt
-    (low_cond (bytes_eq s (codes "then")) _ _ tt (low_cond (bytes_eq s (codes "else")) _ _ tt (low_cond (bytes_eq s (codes "div")) _ _ tt
-    (low_cond (bytes_eq s (codes "weigh")) _ _ tt (low_cond (leb (length s) 16) _ _ tt tt)))))))
+    either Low (bytes_eq s (codes "let")) _ _ tt (either Low (bytes_eq s (codes "in")) _ _ tt (either Low (bytes_eq s (codes "ifp")) _ _ tt
+    (either Low (bytes_eq s (codes "then")) _ _ tt (either Low (bytes_eq s (codes "else")) _ _ tt (either Low (bytes_eq s (codes "div")) _ _ tt
+    (either Low (bytes_eq s (codes "weigh")) _ _ tt (either Low (leb (length s) 16) _ _ tt tt)))))))
 
 sign_low : (p c : ℕ) → Lows (sign p c)
 sign_low p c =
-    lows_cond (eqb c 40) _ _ (tt, tt) (lows_cond (eqb c 41) _ _ (tt, tt) (lows_cond (eqb c 44) _ _ (tt, tt) (lows_cond (eqb c 61) _ _ (tt, tt)
-    (lows_cond (eqb c 43) _ _ (tt, tt) (lows_cond (eqb c 45) _ _ (tt, tt) (lows_cond (eqb c 42) _ _ (tt, tt) (lows_cond (blank c) _ _ tt (tt, tt))))))))
+    either Lows (eqb c 40) _ _ (tt, tt) (either Lows (eqb c 41) _ _ (tt, tt) (either Lows (eqb c 44) _ _ (tt, tt) (either Lows (eqb c 61) _ _ (tt, tt)
+    (either Lows (eqb c 43) _ _ (tt, tt) (either Lows (eqb c 45) _ _ (tt, tt) (either Lows (eqb c 42) _ _ (tt, tt) (either Lows (blank c) _ _ tt (tt, tt))))))))
 
 ended_low : (r : Run) → Lows (ended r)
 ended_low idle = tt
@@ -60,7 +53,7 @@ scan_low : (r : Run) (p : ℕ) (cs : List ℕ) → Lows (scan r p cs)
 scan_low r p [] = ended_low r
 scan_low r p (c ∷ cs) =
     lows_append (made r p c) _
-    (lows_cond (goes_on r c) _ _ tt (lows_append (ended r) _ (ended_low r) (lows_cond (digit c || letter c) _ _ tt (sign_low p c))))
+    (either Lows (goes_on r c) _ _ tt (lows_append (ended r) _ (ended_low r) (either Lows (digit c || letter c) _ _ tt (sign_low p c))))
     (scan_low (after r p c) (p + 1) cs)
 
 mutual

@@ -3,7 +3,7 @@ use Rattle.std.proofs.Common.{◌≡◌, ℕ, ◌+◌, ◌<◌, ◌≤◌, Bool,
 use mathlib.Core.Option.{some}
 use Rattle.std.proofs.lemmas.Bool.{leb-true}
 use Rattle.std.specs.Str.{bytes_eq}
-use Rattle.recipe.specs.Causes.{Verdict, fine, wrong}
+use Rattle.recipe.specs.Causes.{fine, wrong}
 use Rattle.recipe.specs.Grammar.{Expr, Several, one_only, and_then, Declaration, declare}
 use Rattle.recipe.specs.Limits.{size}
 use Rattle.recipe.specs.Within.{FitDeclarations}
@@ -52,21 +52,18 @@ abbrev Framed : List Declaration → Type 0
 Framed [] = Unit {0}
 Framed (declare f xs e ∷ ds) = (length (all xs) + need e ≤ 32) × Framed ds
 
-not_wrong : (c p : ℕ) → ◌≡◌ {A = Verdict (Unit {0})} (wrong c p) (fine tt) → ⊥
-not_wrong c p e = let z : ◌≡◌ {A = ℕ} 0 1 = cc in absurd (omega arith)
-
 pub all_framed : (ds : List Declaration) (p : ℕ) (e : Expr) → frames ds p e ≡ fine tt → Framed ds × (need e ≤ 32)
 all_framed [] p e h = by (leb (need e) 32) refl h
   where
     by : (b : Bool) → leb (need e) 32 ≡ b → cond b (fine (tt {0})) (wrong 12 p) ≡ fine tt → Unit {0} × (need e ≤ 32)
     by true l k = (tt, leb-true (need e) 32 l)
-    by false l k = absurd (not_wrong 12 p k)
+    by false l k = cc
 all_framed (declare f xs b ∷ ds) p e h = by (leb (length (all xs) + need b) 32) refl h (all_framed ds p e)
   where
     by : (t : Bool) → leb (length (all xs) + need b) 32 ≡ t → cond t (frames ds p e) (wrong 12 f.place) ≡ fine tt
         → (frames ds p e ≡ fine tt → Framed ds × (need e ≤ 32)) → ((length (all xs) + need b ≤ 32) × Framed ds) × (need e ≤ 32)
     by true l k others = let r = others k in ((leb-true _ 32 l, r.0), r.1)
-    by false l k others = absurd (not_wrong 12 f.place k)
+    by false l k others = cc
 
 module _ (count : ℕ) (memory : List ℕ) (S : List Signature) (Φ : List Bound) where
   -- A function that can be called with so many arguments: its words stand at its entry, and all that its body needs is met.
@@ -81,12 +78,9 @@ module _ (count : ℕ) (memory : List ℕ) (S : List Signature) (Φ : List Bound
     pub holds : Holds count memory Φ (slots [] 0 g.parameters) (length g.parameters) g.entry g.body
     pub back : WordAt count memory (past g.entry g.body) BACK
 
-  some_same : (a b : ℕ) → some a ≡ some b → a ≡ b
-  some_same a b e = cc
-
   pub ready : (i : ℕ) (ds : List Declaration) (f : List ℕ) (arity : ℕ) → Listed count memory i (bodies Φ i ds) → body_faults S ds ≡ [] → Fits ds → Framed ds
       → arity_of (signatures ds) f ≡ some arity → ((function_of i ds f).entry ≡ find (entries i ds) f) × Ready (function_of i ds f) arity
-  ready i [] f arity l n w m a = absurd (let z : ◌≡◌ {A = ℕ} 0 1 = cc in omega arith)
+  ready i [] f arity l n w m a = cc
   ready i (declare g xs e ∷ ds) f arity l n w m a =
       let x = laid count memory Φ (slots [] 0 (all xs)) (length (all xs)) (i + 1) e _ l.1 in
       let r = none_right (twice [] (all xs)) _ n in
@@ -99,7 +93,7 @@ module _ (count : ℕ) (memory : List ℕ) (S : List Signature) (Φ : List Bound
       by true k others =
           let x = laid count memory Φ (slots [] 0 (all xs)) (length (all xs)) (i + 1) e _ l.1 in
           let b = x.0.0 in let p = past_more (i + 1) e in let q = b.within in
-          let s = some_same (length (all xs)) arity k in
+          let s : length (all xs) ≡ arity = cc in
           let r = none_right (twice [] (all xs)) _ n in
           let w0 = w.0.0 in let w1 = w.0.1 in (
             refl,

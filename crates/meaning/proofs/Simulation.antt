@@ -1,9 +1,9 @@
 -- The words of a tree do what the tree means.
-use Rattle.std.proofs.Common.{◌≡◌, ℕ, suc, ◌+◌, ◌<◌, ◌≤◌, Bool, true, false, cond, ◌||◌, eqb, leb, List, [], ◌∷◌, ◌++◌, length, get_or, pos, sym, refl, ap, ◌∙◌, subst, append_assoc, arith, length-append}
+use Rattle.std.proofs.Common.{◌≡◌, ℕ, ◌+◌, ◌<◌, ◌≤◌, Bool, true, false, cond, ◌||◌, eqb, leb, List, [], ◌∷◌, ◌++◌, length, get_or, pos, sym, refl, ap, ◌∙◌, subst, append_assoc, arith, length-append}
 use mathlib.Core.Option.{Option, none, some}
 use lib.ListN.{get_or-append}
 use lib.Seq.{get_or_at}
-use Rattle.std.proofs.lemmas.Bool.{false≢true, eqb-true, leb-true, and_parts}
+use Rattle.std.proofs.lemmas.Bool.{eqb-true, leb-true, and_parts}
 use Rattle.std.specs.Str.{bytes_eq}
 use Rattle.arithmetic.specs.Rules.{Rules}
 use Rattle.reading.specs.Answers.{Reading, is_channel}
@@ -38,18 +38,18 @@ abbrev mutual
 -- no faults in the whole, none in the parts
 pub none_left : {A : Type 0} (xs ys : List A) → xs ++ ys ≡ [] → xs ≡ []
 none_left [] ys e = refl
-none_left (x ∷ xs) ys e = absurd (let z : ◌≡◌ {A = ℕ} (suc (length (xs ++ ys))) 0 = ap length e in omega arith)
+none_left (x ∷ xs) ys e = cc
 
 pub none_right : {A : Type 0} (xs ys : List A) → xs ++ ys ≡ [] → ys ≡ []
 none_right [] ys e = e
-none_right (x ∷ xs) ys e = absurd (let z : ◌≡◌ {A = ℕ} (suc (length (xs ++ ys))) 0 = ap length e in omega arith)
+none_right (x ∷ xs) ys e = cc
 
 holds_true : (b : Bool) (p : ℕ) (c : Cause) → fault_unless b p c ≡ [] → b ≡ true
 holds_true true p c e = refl
-holds_true false p c e = absurd (let z : ◌≡◌ {A = ℕ} 1 0 = ap length e in omega arith)
+holds_true false p c e = cc
 
 has_arity : (o : Option ℕ) (n p : ℕ) → call_faults o n p ≡ [] → o ≡ some n
-has_arity none n p e = absurd (let z : ◌≡◌ {A = ℕ} 1 0 = ap length e in omega arith)
+has_arity none n p e = cc
 has_arity (some a) n p e = ap some (eqb-true a n (holds_true (eqb a n) p _ e))
 
 channel_small : (k : ℕ) → is_channel k ≡ true → k < 268435456
@@ -88,7 +88,7 @@ module _ {V : Type 0} (d : V) where
 
   pub agree_find : (F : List V) (Γ : List Bound) (env : List (Valued V)) (x : List ℕ) → Agree d F Γ env → among (bound_names Γ) x ≡ true
       → (find Γ x < length F) × (get_or F (find Γ x) d ≡ worth_of d env x)
-  agree_find F [] [] x a k = absurd (false≢true k)
+  agree_find F [] [] x a k = cc
   agree_find F [] (b ∷ env) x a k = absurd a
   agree_find F (g ∷ Γ) [] x a k = absurd a
   agree_find F (g ∷ Γ) (b ∷ env) x a k = go (bytes_eq x g.name) (bytes_eq x b.name) (ap (bytes_eq x) a.0) k (agree_find F Γ env x a.3)
@@ -96,8 +96,8 @@ module _ {V : Type 0} (d : V) where
       go : (s t : Bool) → s ≡ t → (s || among (bound_names Γ) x) ≡ true → (among (bound_names Γ) x ≡ true → (find Γ x < length F) × (get_or F (find Γ x) d ≡ worth_of d env x))
           → (cond s g.to (find Γ x) < length F) × (get_or F (cond s g.to (find Γ x)) d ≡ cond t b.worth (worth_of d env x))
       go true true e k next = (a.1, a.2)
-      go true false e k next = absurd (false≢true (sym e))
-      go false true e k next = absurd (false≢true e)
+      go true false e k next = cc
+      go false true e k next = cc
       go false false e k next = next k
 
 snoc_length : {V : Type 0} (F : List V) (v : V) (h : ℕ) → length F ≡ h → length (F ++ (v ∷ [])) ≡ h + 1
@@ -143,12 +143,14 @@ module _ {V : Type 0} (rules : Rules V) (held : ℕ → Reading) (count : ℕ) (
           does_after rules held count memory (spot i F K) (value rules held φ i env e₁) _ (λ v. spot (past i e₁) (F ++ (v ∷ [])) K) _
           (sim ns Γ env h i F e₁ (none_left (names.faults S ns e₁) _ l) z.0 g a eq (omega arith) c.0)
           (λ v. does_after rules held count memory (spot (past i e₁) (F ++ (v ∷ [])) K) (value rules held φ (past i e₁) env e₂) _ (λ w. spot (past (past i e₁) e₂) ((F ++ (v ∷ [])) ++ (w ∷ [])) K) _
-          (sim ns Γ env (h + 1) (past i e₁) (F ++ (v ∷ [])) e₂ (none_right (names.faults S ns e₁) _ l) z.1 g (agree_more (rules.whole (pos 0)) F (v ∷ []) Γ env a) (snoc_length F v h eq) (omega arith) c.1)
+          (sim ns Γ env (h + 1) (past i e₁) (F ++ (v ∷ [])) e₂ (none_right (names.faults S ns e₁) _ l) z.1 g (agree_more (rules.whole (pos 0)) F (v ∷ []) Γ env a) (snoc_length F v h eq)
+          (omega arith) c.1)
           (λ w. do_op rules held count memory _ o (past (past i e₁) e₂) F v w K c.2 (operators o)))
       sim ns Γ env h i F (let_in x e₁ e₂) l z g a eq m c =
           does_after rules held count memory (spot i F K) (value rules held φ i env e₁) _ (λ v. spot (past i e₁) (F ++ (v ∷ [])) K) _
           (sim ns Γ env h i F e₁ (none_left (names.faults S ns e₁) _ l) z.0 g a eq (omega arith) c.0)
-          (λ v. does_after rules held count memory (spot (past i e₁) (F ++ (v ∷ [])) K) (value rules held φ (past i e₁) (record { name = x.name; worth = v } ∷ env) e₂) _ (λ w. spot (past (past i e₁) e₂) ((F ++ (v ∷ [])) ++ (w ∷ [])) K) _
+          (λ v. does_after rules held count memory (spot (past i e₁) (F ++ (v ∷ [])) K) (value rules held φ (past i e₁) (record { name = x.name; worth = v } ∷ env) e₂) _
+          (λ w. spot (past (past i e₁) e₂) ((F ++ (v ∷ [])) ++ (w ∷ [])) K) _
           (sim (x.name ∷ ns) (record { name = x.name; to = h } ∷ Γ) (record { name = x.name; worth = v } ∷ env) (h + 1) (past i e₁) (F ++ (v ∷ [])) e₂
           (none_right (names.faults S ns e₁) _ l) z.1 (covers_more ns Γ x.name h g)
           (refl, (let q = snoc_length F v h eq in omega arith), get_or_at F v [] (rules.whole (pos 0)) h eq, agree_more (rules.whole (pos 0)) F (v ∷ []) Γ env a)
@@ -192,4 +194,5 @@ module _ {V : Type 0} (rules : Rules V) (held : ℕ → Reading) (count : ℕ) (
           (λ vs lv. does_after rules held count memory (spot (pasts i es) (F ++ vs) K) (value rules held φ (pasts i es) env e) _ (λ v. spot (past (pasts i es) e) ((F ++ vs) ++ (v ∷ [])) K) _
           (sim ns Γ env (h + arity es) (pasts i es) (F ++ vs) e (none_right (faults_of S ns es) _ l) z.1 g (agree_more (rules.whole (pos 0)) F vs Γ env a)
           (let q = length-append F vs in omega arith) (omega arith) c.1)
-          (λ v. does_nothing rules held count memory (vs ++ (v ∷ [])) _ (λ us. spot (past (pasts i es) e) (F ++ us) K) (ap (λ (X : List V). spot (past (pasts i es) e) X K) (append_assoc F vs (v ∷ [])))))
+          (λ v. does_nothing rules held count memory (vs ++ (v ∷ [])) _ (λ us. spot (past (pasts i es) e) (F ++ us) K)
+          (ap (λ (X : List V). spot (past (pasts i es) e) X K) (append_assoc F vs (v ∷ [])))))

@@ -124,7 +124,8 @@ module _ {V : Type 0} (rules : Rules V) (held : ℕ → Reading) (count : ℕ) (
       go (held channel) (λ spare T. step_is (spot i F K) spare T w (Weigh channel) h d
       ∙ ap (carried_at rules (spot i F K) spare T) (cond-true (is_channel channel) _ _ q))
     where
-      go : (x : Reading) → ((spare : List V) (T : List Return) → next rules held count memory (state (spot i F K) spare T) ≡ carried_at rules (spot i F K) spare T (weighing frame_room rules (registers_of (spot i F K)) channel x))
+      go : (x : Reading) → ((spare : List V) (T : List Return)
+          → next rules held count memory (state (spot i F K) spare T) ≡ carried_at rules (spot i F K) spare T (weighing frame_room rules (registers_of (spot i F K)) channel x))
           → Does rules held count memory (spot i F K) (weighed rules i channel x) (λ v. spot (i + 1) (F ++ (v ∷ [])) K)
       go (Ok grams) e = λ spare T c. pushes i F K (rules.whole grams) spare T c l (e spare T)
       go (Err f) e = λ spare T c. stopped_one rules held count memory (spot i F K) _ spare T

@@ -9,7 +9,7 @@ use Rattle.machine.specs.declared.types.Status.{Status}
 use Rattle.machine.specs.declared.types.Status.TheVariants.{Going, Spent}
 use Rattle.machine.specs.Steps.{frame_room, Stepped}
 use Rattle.machine.specs.Runs.{Run, Scene, scene, granted, cost, status_after}
-use Rattle.meaning.proofs.Grants.{granted_plus}
+use Rattle.machine.proofs.Grants.{granted_add}
 use Rattle.meaning.proofs.Shape.{next, Goes}
 
 abbrev pub going : Registers → ℕ → ℕ → Run
@@ -34,7 +34,8 @@ module _ {V : Type 0} (rules : Rules V) (held : ℕ → Reading) (count : ℕ) (
       → granted frame_room rules held count memory 1 (shown_as x used allowance) ≡ shown_as (next rules held count memory x) (used + 1) allowance
   turn_on x used allowance e h =
       turn x used allowance (Ok None) e
-      ∙ ap (λ (s : Status). scene (record { registers = (next rules held count memory x).registers; used = used + 1; allowance = allowance; status = s }) (next rules held count memory x).stack (next rules held count memory x).returns)
+      ∙ ap (λ (s : Status). scene (record { registers = (next rules held count memory x).registers; used = used + 1; allowance = allowance; status = s })
+      (next rules held count memory x).stack (next rules held count memory x).returns)
       (cond-true (ltb (used + 1) allowance) Going Spent (lt-ltb (used + 1) allowance h))
 
   one_first : (n : ℕ) (x : Scene V) → granted frame_room rules held count memory (suc n) x ≡ granted frame_room rules held count memory n (granted frame_room rules held count memory 1 x)
@@ -73,11 +74,12 @@ module _ {V : Type 0} (rules : Rules V) (held : ℕ → Reading) (count : ℕ) (
   first_of (suc j) (suc n) x y p h = let r = first_of j n (next rules held count memory x) y p.1 (le_of_suc-le-suc h) in (r.0, (p.0, r.1))
 
   -- the last step of a run
-  pub granted_last : (n : ℕ) (x y : Stepped V) (allowance : ℕ) (answer : Result (Option ℤ) Fault) → Goes rules held count memory n x y → n < allowance → (next rules held count memory y).answer ≡ answer
+  pub granted_last : (n : ℕ) (x y : Stepped V) (allowance : ℕ) (answer : Result (Option ℤ) Fault) → Goes rules held count memory n x y → n < allowance
+      → (next rules held count memory y).answer ≡ answer
       → granted frame_room rules held count memory (n + 1) (shown_as x 0 allowance) ≡ left (next rules held count memory y) y.registers answer n allowance
   granted_last n x y allowance answer p h e =
       let z : 0 + n ≡ n = omega arith in
-      granted_plus rules held count memory n 1 (shown_as x 0 allowance)
+      granted_add frame_room rules held count memory n 1 (shown_as x 0 allowance)
       ∙ (ap (granted frame_room rules held count memory 1) (granted_goes n x y 0 allowance p (omega arith) ∙ ap (λ (u : ℕ). shown_as y u allowance) z)
       ∙ turn y n allowance answer e)
 

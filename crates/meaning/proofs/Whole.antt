@@ -2,7 +2,7 @@
 use Rattle.std.proofs.Common.{◌≡◌, ℕ, zero, suc, ◌+◌, ◌-◌, ◌<◌, ◌≤◌, min, true, false, eqb, ◌⊎◌, List, [], ◌∷◌, ◌++◌, length, get_or, pos, Some, Ok, Err, sym, refl, ap, ◌∙◌, subst, inl, inr, append_assoc, arith, length-append}
 use mathlib.Core.Option.{some}
 use lib.Seq.{get_or_at}
-use Rattle.std.proofs.lemmas.Bool.{false≢true, or_cases, or_left, or_right, cond-true, cond-false, eq-eqb, ne_eqb, cases_lt}
+use Rattle.std.proofs.lemmas.Bool.{or_cases, or_left, or_right, cond-true, cond-false, eq-eqb, ne_eqb, cases_lt}
 use Rattle.std.specs.Str.{bytes_eq}
 use Rattle.arithmetic.specs.Rules.{Rules}
 use Rattle.reading.specs.Answers.{Reading}
@@ -12,13 +12,13 @@ use Rattle.recipe.specs.Names.{all, among, names_of, signatures, Signature, arit
 use Rattle.recipe.specs.Image.{HEAD, BACK, past, past_all, Bound, find, words, slots, entries, bodies, image}
 use Rattle.recipe.proofs.Outputs.{image_bound}
 use Rattle.machine.proofs.Decodes.{calls as decodes_call}
+use Rattle.machine.proofs.Grants.{granted_add, granted_stopped}
 use Rattle.machine.specs.declared.types.Return.{Return}
 use Rattle.machine.specs.declared.types.Status.TheVariants.{Failed}
-use Rattle.machine.specs.Steps.{Stepped}
+use Rattle.machine.specs.Steps.{Stepped, frame_room}
 use Rattle.machine.specs.Runs.{Scene, begun, scene, is_going}
 use Rattle.meaning.specs.Meaning.{Outcome, gives, faults, steps, after, one_more, Valued, value, with_worths, function_of, functions, meaning_within}
 use Rattle.meaning.specs.Theorem.{reached, end, standing, Leaves, DoesSo, Runs}
-use Rattle.meaning.proofs.Grants.{granted_plus, stays}
 use Rattle.meaning.proofs.Shape.{Saved, spot, state, Fits, Goes, Reach, Does, does_after, does_later}
 use Rattle.meaning.proofs.Steps.{WordAt, go_call, fail_call, go_back, ends_back}
 use Rattle.meaning.proofs.Placing.{listed_all, laid}
@@ -29,7 +29,7 @@ use Rattle.meaning.proofs.Turns.{granted_goes, granted_last, first_of, whole_all
 
 -- Parameters are bound to their slots, and are worth what stands there.
 slots_cover : (xs : List Ident) (Γ : List Bound) (n : ℕ) (x : List ℕ) → (among (names_of xs) x ≡ true) ⊎ (among (bound_names Γ) x ≡ true) → among (bound_names (slots Γ n xs)) x ≡ true
-slots_cover [] Γ n x (inl e) = absurd (false≢true e)
+slots_cover [] Γ n x (inl e) = cc
 slots_cover [] Γ n x (inr e) = e
 slots_cover (y ∷ xs) Γ n x (inl e) =
     slots_cover xs (record { name = y.name; to = n } ∷ Γ) (n + 1) x (elim (or_cases (bytes_eq x y.name) _ e) [ inl h ↦ inr (or_left (bytes_eq x y.name) _ h) | inr h ↦ inl h ])
@@ -38,7 +38,7 @@ slots_cover (y ∷ xs) Γ n x (inr e) = slots_cover xs (record { name = y.name; 
 slots_agree : {V : Type 0} (d : V) (F : List V) (Γ : List Bound) (env : List (Valued V)) (xs : List Ident) (vs pre : List V) (n : ℕ)
     → F ≡ pre ++ vs → length pre ≡ n → length vs ≡ length xs → Agree d F Γ env → Agree d F (slots Γ n xs) (with_worths env xs vs)
 slots_agree d F Γ env [] vs pre n e p l a = a
-slots_agree d F Γ env (x ∷ xs) [] pre n e p l a = absurd (let z : ◌≡◌ {A = ℕ} 0 (suc (length xs)) = l in omega arith)
+slots_agree d F Γ env (x ∷ xs) [] pre n e p l a = cc
 slots_agree {V} d F Γ env (x ∷ xs) (v ∷ vs) pre n e p l a =
     let q = length-append pre (v ∷ vs) in let u = ap length e in let w = length-append pre (v ∷ []) in
     slots_agree d F (record { name = x.name; to = n } ∷ Γ) (record { name = x.name; worth = v } ∷ env) xs vs (pre ++ (v ∷ [])) (n + 1)
@@ -86,7 +86,8 @@ module _ {V : Type 0} (rules : Rules V) (held : ℕ → Reading) (count : ℕ) (
   right_on : (o : Outcome V) (m n : ℕ) → m ≤ n → m ≡ min n (min allowance (steps o)) → is_going (run_to m).run.status ≡ false → Right o m → Right o n
   right_on o m n h e g r =
       let k : m + (n - m) ≡ n = omega arith in
-      let s : run_to n ≡ run_to m = ap run_to (sym k) ∙ (granted_plus rules held count memory m (n - m) (scene (begun allowance) stack table) ∙ stays rules held count memory (n - m) (run_to m) g) in
+      let s : run_to n ≡ run_to m = ap run_to (sym k) ∙ (granted_add frame_room rules held count memory m (n - m) (scene (begun allowance) stack table)
+      ∙ granted_stopped frame_room rules held count memory (n - m) (run_to m) g) in
       let u = r.used in
       record {
         used = ap (λ (x : Scene V). x.run.used) s ∙ (let v : min m (min allowance (steps o)) ≡ min n (min allowance (steps o)) = omega arith in r.used ∙ v);
@@ -180,4 +181,4 @@ recipes_run {V} rules held text (recipe ds p e) r behind stack table allowance l
     let each = λ (f : List ℕ) (arity : ℕ) (a : arity_of S f ≡ some arity). ready count memory S Φ from (all ds) f arity x.0.1 (none_left (body_faults S (all ds)) _ n) (all_fit ds w.1 small.0) m.0 a in
     carries rules held count memory stack table allowance large long some_allowed (past 1 e) (value rules held (functions rules held from (all ds) 128) 1 [] e) b
     (sim rules held count memory short S Φ (functions rules held from (all ds) 128) [] (calls_do rules held count memory short S Φ from (all ds) each 128 [] refl) [] [] [] 0 1 [] e
-    (none_right (body_faults S (all ds)) _ n) small.1 (λ x h. absurd (false≢true h)) tt refl (omega arith) (x.1 b.within))
+    (none_right (body_faults S (all ds)) _ n) small.1 (λ x h. cc) tt refl (omega arith) (x.1 b.within))
