@@ -34,7 +34,7 @@ pub(crate) fn admit(text: &[u8], image: &[u32], table: &[u32]) -> Result<(), Ref
     Ok(())
 }
 
-// The first that is no token is refused.
+// The first that is no token is refused. Where a token begins is known once the one before it has been read.
 pub(crate) fn check_tokens(text: &[u8]) -> Result<(), Refusal>
     ensures { Checks text.now result }
 {
