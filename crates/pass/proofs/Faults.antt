@@ -11,7 +11,8 @@ use Rattle.recipe.specs.declared.cause.Cause.TheVariants.{Grammar, Nesting, Func
 -- The causes by their numbers, from 1 on.
 abbrev at : ℕ → Cause
 at n =
-    get_or (TextTooLong ∷ UnknownByte ∷ NumberTooLarge ∷ NameTooLong ∷ Grammar ∷ Nesting ∷ Functions ∷ Parameters ∷ DeclaredTwice ∷ UnknownName ∷ ArgumentCount ∷ Frame ∷ Channel ∷ Constructs ∷ NoRoom ∷ []) (n - 1) Frame
+    get_or (TextTooLong ∷ UnknownByte ∷ NumberTooLarge ∷ NameTooLong ∷ Grammar ∷ Nesting ∷ Functions
+    ∷ Parameters ∷ DeclaredTwice ∷ UnknownName ∷ ArgumentCount ∷ Frame ∷ Channel ∷ Constructs ∷ NoRoom ∷ []) (n - 1) Frame
 
 back : (c : Cause) → at (cause_number c) ≡ c
 back TextTooLong = refl

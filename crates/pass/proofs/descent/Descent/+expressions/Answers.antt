@@ -234,7 +234,8 @@ choice-returns-clause-goes t c =
     let o₁ = c.skip.ensures ∙ ap emitted h.0.out in
     let o₂ = c.skip-2.ensures ∙ ap emitted w.0.out in
     record {
-      on = further c.requires.ready.0 c.in_ok-last.last r.on.fit (omega (arith, e.0.far, v.on.far, h.0.far, y.on.far, w.0.far, r.on.far)) (omega (arith, e.1, v.on.more, h.1, y.on.more, w.1, r.on.more)) _
+      on = further c.requires.ready.0 c.in_ok-last.last r.on.fit (omega (arith, e.0.far, v.on.far, h.0.far, y.on.far, w.0.far, r.on.far))
+          (omega (arith, e.1, v.on.more, h.1, y.on.more, w.1, r.on.more)) _
           (omega (arith, e.1, at_of e.0.out, v.on.slow, h.1, at_of o₁, y.on.slow, w.1, at_of o₂, r.on.slow));
       read = ifp_read (length text) (past_kind c.requires.kind e.0) i.0 e.1 e.0.fit.1 v.read h.0.token v.on.fit.1 h.1 y.read w.0.token y.on.fit.1 w.1 r.read;
       made = made_ifp (from Made e.0.out v.made) o₁ y.made o₂ c.put.ensures h.0.out r.made c.put-2.ensures w.0.out;
