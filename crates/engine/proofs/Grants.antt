@@ -1,7 +1,6 @@
 -- Granted steps, one at a time.
-use Rattle.std.proofs.Common.{◌≡◌, ℕ, ◌+◌, ◌-◌, ◌<◌, ◌≤◌, min, true, false, ◌||◌, ltb, List, drop, ℤ, Some, None, Option, Ok, Err, Result, sym, refl, ap, ◌∙◌, subst, inl, inr, arith}
+use Rattle.std.proofs.Common.{◌≡◌, ℕ, ◌+◌, ◌-◌, ◌<◌, ◌≤◌, min, true, false, ltb, List, drop, ℤ, Some, None, Option, Ok, Err, Result, sym, refl, ap, ◌∙◌, subst, inl, inr, arith}
 use Rattle.std.proofs.lemmas.Bool.{cond-true, cond-false, lt-ltb, le-ltb, cases_lt}
-use Rattle.std.proofs.lemmas.Bool.Decides.{nat_tests}
 use Rattle.arithmetic.specs.Rules.{Rules}
 use Rattle.reading.specs.Answers.{Reading}
 use Rattle.machine.specs.declared.fault.Fault.{Fault}
@@ -87,6 +86,3 @@ module _ {V : Type 0} (rules : Rules V) (held : ℕ → Reading) (count : ℕ) (
             stopped_by frame_room rules held count image most grant x (scene (run_at r m most (standing (r.used + most) r.allowance)) s t) made
             (ap is_going (cond-false (ltb (r.used + most) r.allowance) Going Spent (le-ltb (r.used + most) r.allowance (omega arith)))) (omega arith)
       ]
-
-pub enough : (a b c d e f : ℕ) → (ltb a b || ltb c d || ltb e f) ≡ false → (b ≤ a) × (d ≤ c) × (f ≤ e)
-enough a b c d e f h = (grind (arith, nat_tests), grind (arith, nat_tests), grind (arith, nat_tests))
