@@ -273,6 +273,7 @@ impl<'t> Descent<'t, '_> {
         ensures kept { scope.new ≡ scope.old }
     {
         let mut so_far = self.expression(here, level, scope, image)?;
+        // counted here, since each argument stands on the frame over those before it
         let mut count: usize = 1;
         while let Ok(next) = so_far.expect(self.text, Kind::Word(Word::Comma)) {
             so_far = self.expression(&next, level.holding(count), scope, image)?;

@@ -47,7 +47,7 @@ impl Drop for Within<'_, '_> {
     }
 }
 
-// The newest variable of a name.
+// The newest variable of a name: the last that has it, where a function is the first.
 pub(crate) fn variable_of<'t>(scope: &[Variable<'t>], name: &[u8]) -> Option<Variable<'t>>
     ensures { result ≡ newest_of scope.now name.now }
 {

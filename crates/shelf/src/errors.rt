@@ -13,7 +13,8 @@ pub enum NotKept {
     TooManyRecipes,
 }
 
-// Why a compile keeps nothing. Memory that runs out is no answer.
+// Why a compile keeps nothing. Memory that runs out is no answer. It is not one type with a line's error, over what is
+// told: a conversion from anything that is told and one from want of memory would overlap.
 #[derive(PartialEq, Eq, Debug, Drop)]
 pub enum CompileError {
     NotKept(NotKept),
