@@ -1,5 +1,5 @@
 -- A shelf's map as what is kept.
-use Rattle.std.proofs.Common.{◌≡◌, ℕ, ◌≤◌, Bool, true, false, cond, not, leb, List, [], ◌∷◌, map, length, is_some, Some, None, vec_items, Vec, Option, option_map, sym, refl, ap, ◌∙◌}
+use Rattle.std.proofs.Common.{◌≡◌, ℕ, ◌≤◌, ◌<◌, ◌+◌, inl, inr, arith, Bool, true, false, cond, not, leb, List, [], ◌∷◌, map, length, is_some, Some, None, Ok, Err, Result, IfOk, OnErr, vec_items, Vec, Option, option_map, sym, refl, ap, ◌∙◌}
 use lib.ListN.{length-map}
 use Rattle.std.specs.Ordering.{nat_cmp, match_ordering}
 use Rattle.std.specs.declared.cmp.Ordering.{Ordering}
@@ -8,7 +8,7 @@ use Rattle.std.specs.declared.alloc.Global.{Global}
 use Rattle.std.specs.Cmp.Lexicographic.{slice_cmp}
 use Rattle.std.specs.Map.{lookup}
 use Rattle.std.specs.BTreeMap.{is_at, insert_entry}
-use Rattle.std.proofs.lemmas.Bool.{le-leb}
+use Rattle.std.proofs.lemmas.Bool.{cases_Bool, le-leb, leb-false, leb-true}
 use Rattle.recipe.specs.Compiled.{accepted, refused}
 use Rattle.shelf.specs.declared.kept.Recipe.{Recipe}
 use Rattle.shelf.specs.Kept.{Entry, Kept, answer_at, compile_after, compile_told, entry_of, found, full, put, refuses, too_many, took, with_recipes}
@@ -50,6 +50,23 @@ pub full_at : (q : List ℕ) (es : List (Vec ℕ Global × Recipe)) (r : Bool) �
 full_at q es r h e =
     let n : leb 100 (length (map shown es)) ≡ true = ap (leb 100) (length-map es shown) ∙ le-leb 100 (length es) h in
     rw n (ap not (e ∙ (sym (some_shown (lookup (is_at (λ k. slice_cmp nat_cmp q (vec_items k))) es)) ∙ ap is_some (found_shown q es))))
+
+-- A shelf that is not full has at most a hundred names after one more.
+pub few_with : (q : List ℕ) (es : List (Vec ℕ Global × Recipe)) (o : Option Recipe) → full q (map shown es) ≡ false →
+    o ≡ lookup (is_at (λ k. slice_cmp nat_cmp q (vec_items k))) es → length es ≤ 100 → length es + cond (is_some o) 0 1 ≤ 100
+few_with q es (Some x) f e h = omega arith
+few_with q es None f e h =
+    elim (cases_Bool (leb 100 (length es))) [
+      | inl t ↦ let z : true ≡ false = full_at q es false (leb-true _ _ t) (ap is_some e) ∙ f in absurd cc
+      | inr n ↦ let l : length es < 100 = leb-false _ _ n in omega arith
+    ]
+
+-- An insertion of a name into a shelf that is not full, whether memory is there or not, leaves at most a hundred.
+pub few_after : {E : Type 0} (q : List ℕ) (es fs : List (Vec ℕ Global × Recipe)) → full q (map shown es) ≡ false → length es ≤ 100 → (r : Result (Option Recipe) E) →
+    IfOk r (λ o. length fs ≡ length es + cond (is_some o) 0 1) → IfOk r (λ o. o ≡ lookup (is_at (λ k. slice_cmp nat_cmp q (vec_items k))) es) →
+    OnErr r (fs ≡ es) → length fs ≤ 100
+few_after q es fs f h (Ok o) l e u = omega (arith, l, few_with q es o f e h)
+few_after q es fs f h (Err x) l e u = omega (arith, ap length u)
 
 -- ---- the three ends of a compile: a shelf that is full, a text that is accepted, one that is refused
 pub ends_full : (name text : List ℕ) (k : Kept) → full name k.recipes ≡ true → (too_many ≡ compile_told name text k) × (k ≡ compile_after name text k)

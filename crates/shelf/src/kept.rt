@@ -1,4 +1,7 @@
 // The recipes that are kept, and the room that the next compiles are lent.
+ghost use Rattle.std.specs.Prelude.{◌≤◌};
+ghost use Rattle.std.specs.BTreeMap.{btree_map_len};
+
 use std::collections::BTreeMap;
 
 // An accepted text, with the image that it compiled to.
@@ -15,8 +18,10 @@ pub struct Room {
     pub table: u32,
 }
 
+// At most 100 names.
 #[derive(Drop)]
 pub struct Shelf {
     pub(crate) recipes: BTreeMap<Vec<u8>, Recipe>,
     pub(crate) room: Room,
+    ghost few: { btree_map_len recipes ≤ 100 },
 }

@@ -5,7 +5,7 @@ use Rattle.shelf.specs.declared.errors.NotKept.TheVariants as the
 use Rattle.shelf.specs.declared.errors.CompileError.TheVariants as error
 use Rattle.shelf.specs.Kept.{Compiles, answer_at, full, kept_by, with_recipes}
 use Rattle.shelf.proofs.Answered.{cause_told, refilled, words_taken, words_told}
-use Rattle.shelf.proofs.Entries.{ends_accepted, ends_refused, put_shown, shown}
+use Rattle.shelf.proofs.Entries.{few_after, ends_accepted, ends_refused, put_shown, shown}
 use Rattle.shelf.proofs.kept.Shelf.compile.Goals as goal
 use Rattle.shelf.proofs.kept.Shelf.compile.Goals.{After-compile}
 
@@ -48,3 +48,11 @@ returns c =
     ends_accepted c.args.name.items c.args.text.items (vec_items c.truncate.new.self) k (record { recipes = map shown c.insert.new.self.entries; room = k.room }) n (open_for b)
     (a ∙ lent b) (words_told n (vec_items c.truncate.new.self) answer answers a)
     (ap (with_recipes k) (ap (map shown) c.in_ok-insert.ensures.entries ∙ put_shown c.args.self.now.recipes.entries c.args.name (record { text = c.args.text; image = c.truncate.new.self })))
+
+pub invariant_of-self : goal.invariant_of-self
+invariant_of-self c =
+    let b = (goal.at.invariant_of-self c).After-compile in
+    record {
+      few = few_after c.args.name.items c.args.self.now.recipes.entries c.insert.new.self.entries (open_for b) c.args.self.now.few c.insert.result
+          c.insert.ensures.len c.insert.ensures.old c.insert.ensures.err;
+    }
