@@ -44,17 +44,13 @@ A command that is not understood is answered 'not understood', with the reason, 
 ";
 
 // The record of one session, line by line as the commands come.
-fn record(rt: &HostRuntime, heap: Global, mut input: impl BufRead + Drop) -> anyhow::Result<()> {
+fn record(rt: &HostRuntime, heap: Global, input: impl BufRead + Drop) -> anyhow::Result<()> {
     let mut bench = Bench::new(heap)?;
     let mut out = rt.stdout();
-    let mut text = Vec::new(heap);
-    for _ in 0..u64::MAX {
-        text.clear();
-        if input.read_until(b'\n', &mut text)? == 0 {
-            break;
-        }
+    for line in input.split(heap, b'\n') {
+        let line = line?;
         // in the record a line that begins with blanks is one for people
-        let line = trimmed(&text);
+        let line = trimmed(&line);
         if let Some(answer) = bench.take(heap, line)? {
             out.write_all(line)?;
             writeln!(out, ": {answer}")?;

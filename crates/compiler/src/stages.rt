@@ -15,6 +15,9 @@ const IMAGE_WORDS: usize = 4_096;
 
 const TABLE_WORDS: usize = 2_000;
 
+// The first word of an image, but for the number of its words.
+const HEAD_WORD: u32 = 0x9000_0000;
+
 // Before the text is read, by the lengths of the text, the image and the work table.
 pub(crate) fn admit(text: &[u8], image: &[u32], table: &[u32]) -> Result<(), Refusal>
     ensures { Admits (length text.now) (length image.now) (length table.now) result }
@@ -65,8 +68,9 @@ pub(crate) fn judge(found: &Pass) -> Result<(), Refusal>
     }
 }
 
-// Two passes that write nothing. The first is refused by the grammar and its limits, and finds the functions and how many words there are before theirs.
-// The second knows the functions, so it finds what is wrong with the names and the frames, and where the functions' words begin.
+// Two passes that write nothing. The first is refused by the grammar and its limits, and finds the functions and how many
+// words there are before theirs. The second knows the functions, so it finds what is wrong with the names and the frames,
+// and where the functions' words begin.
 pub(crate) fn plan(text: &[u8]) -> Result<Pass<'_>, Refusal>
     ensures { Plans text.now result }
 {
@@ -81,7 +85,7 @@ pub(crate) fn put_head(image: &mut [u32], words: usize)
     requires { (words ≤ 4096) × (0 < length image.old) }
     ensures { image.new ≡ slice_set image.old 0 (HEAD words) }
 {
-    image[0] = 0x9000_0000 + words as u32;
+    image[0] = HEAD_WORD + words as u32;
 }
 
 // The pass that writes, with the functions where the plan has them; then the head. The text has been read before, so nothing is refused.

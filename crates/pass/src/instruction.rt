@@ -5,6 +5,27 @@ ghost use Rattle.pass.specs.Outputs.{word_for, Holds};
 
 use recipe::Op;
 
+// The kinds of words, by their top four bits.
+const NUM: u32 = 0;
+
+const VAR: u32 = 1;
+
+const OP: u32 = 2;
+
+const OUT: u32 = 3;
+
+const UNLESS: u32 = 4;
+
+const GO: u32 = 5;
+
+const CALL: u32 = 6;
+
+const BACK: u32 = 7;
+
+const WEIGH: u32 = 8;
+
+const FN: u32 = 10;
+
 // What a word does: it pushes a number, a variable or the weight held for a channel, joins two values, removes the one under the
 // top, goes to a target (unless a value is positive), calls, returns, or begins a function.
 #[derive(Clone, Copy, PartialEq, Eq, Debug)]
@@ -28,19 +49,19 @@ impl Instruction {
         ensures { result ≡ word_for self }
     {
         match self {
-            Instruction::Number(value) => word(0, value),
-            Instruction::Variable(slot) => word(1, slot as u32),
-            Instruction::Operator(Op::Plus) => word(2, 0),
-            Instruction::Operator(Op::Minus) => word(2, 1),
-            Instruction::Operator(Op::Times) => word(2, 2),
-            Instruction::Operator(Op::Over) => word(2, 3),
-            Instruction::Out => word(3, 0),
-            Instruction::Unless(target) => word(4, target as u32),
-            Instruction::Go(target) => word(5, target as u32),
-            Instruction::Call { arity, target } => { word(6, arity as u32 * 65536 + target as u32) }
-            Instruction::Back => word(7, 0),
-            Instruction::Weigh(channel) => word(8, channel),
-            Instruction::Function(arity) => word(10, arity as u32),
+            Instruction::Number(value) => word(NUM, value),
+            Instruction::Variable(slot) => word(VAR, slot as u32),
+            Instruction::Operator(Op::Plus) => word(OP, 0),
+            Instruction::Operator(Op::Minus) => word(OP, 1),
+            Instruction::Operator(Op::Times) => word(OP, 2),
+            Instruction::Operator(Op::Over) => word(OP, 3),
+            Instruction::Out => word(OUT, 0),
+            Instruction::Unless(target) => word(UNLESS, target as u32),
+            Instruction::Go(target) => word(GO, target as u32),
+            Instruction::Call { arity, target } => { word(CALL, arity as u32 * 65536 + target as u32) }
+            Instruction::Back => word(BACK, 0),
+            Instruction::Weigh(channel) => word(WEIGH, channel),
+            Instruction::Function(arity) => word(FN, arity as u32),
         }
     }
 }

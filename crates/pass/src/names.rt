@@ -68,7 +68,7 @@ impl Spot {
         ensures made { result ≡ pushed held (faulted self.out (fault_unless (nat_le 1 value && nat_le value 64) self.look.start Channel)) }
         ensures written { image.new ≡ slice_set image.old self.out.at (WEIGH value) }
     {
-        let known = 1 <= value && value <= 64;
+        let known = (1..=64).contains(&value);
         let fault = (!known).then_some(self.refused(Cause::Channel));
         self.out
             .note(fault)

@@ -115,24 +115,19 @@ fn answer(
 }
 
 // The record of one session, line by line as the commands come. The lines of a recipe's text belong to one command.
-fn record(rt: &HostRuntime, mut input: impl BufRead + Drop) -> anyhow::Result<()> {
+fn record(rt: &HostRuntime, input: impl BufRead + Drop) -> anyhow::Result<()> {
     let heap = rt.alloc();
     let mut session = Session::new(heap)?;
     let mut out = rt.stdout();
     let mut command: Vec<u8> = Vec::new(heap);
-    let mut text: Vec<u8> = Vec::new(heap);
-    for _ in 0..u64::MAX {
-        text.clear();
-        if input.read_until(b'\n', &mut text)? == 0 {
-            break;
-        }
-        let line = text.strip_suffix(b"\n").unwrap_or(&text);
+    for line in input.split(heap, b'\n') {
+        let line = line?;
         if !session.has_draft() {
             command.clear();
             // in the record a line that begins with blanks is one for people
-            command.extend_from_slice(trimmed(line))?;
+            command.extend_from_slice(trimmed(&line))?;
         }
-        if let Some(reply) = session.take(heap, line)? {
+        if let Some(reply) = session.take(heap, &line)? {
             answer(rt, &mut out, &mut session, &command, reply)?;
         }
     }

@@ -147,8 +147,8 @@ impl Session {
         }
     }
 
-    // One line of a session, without its line feed: None where it is passed over or belongs to a text. Where memory runs out, a text that is being written is let go and nothing else
-    // has changed.
+    // One line of a session, without its line feed: None where it is passed over or belongs to a text. Where memory runs
+    // out, a text that is being written is let go and nothing else has changed.
     pub fn take<'a>(
         &mut self,
         heap: Global,

@@ -66,56 +66,60 @@ fn commands(rt: HostRuntime) -> Result<(), Fail> {
     answers(&rt, rt.alloc(), &rows)
 }
 
+const NUMBER: &str =
+    "not understood: the channel is to be a whole number; channels are 1 to 64; write weigh CHANNEL";
+
+const GRAMS: &str =
+    "not understood: the weight is to be whole grams from -2147483648 to 2147483647; write tare CHANNEL GRAMS";
+
+const UNKNOWN: &str = "not understood: no such command; --help lists the commands";
+
+const NOT_UNDERSTOOD: [(&str, &str); 19] = [
+    ("weigh 4294967296", NUMBER),
+    ("weigh 99999999999999999999999999999999", NUMBER),
+    ("weigh -1", NUMBER),
+    ("weigh +1", NUMBER),
+    ("weigh 1x", NUMBER),
+    (
+        "weigh",
+        "not understood: the channel is missing; write weigh CHANNEL",
+    ),
+    (
+        "weigh 1 2",
+        "not understood: a word too many; write weigh CHANNEL",
+    ),
+    ("tare 1 2147483648", GRAMS),
+    ("tare 1 -2147483649", GRAMS),
+    ("tare 1 -", GRAMS),
+    ("tare 1 --1", GRAMS),
+    ("Weigh 1", UNKNOWN),
+    ("weigh1", UNKNOWN),
+    (
+        "put 1 5 resting",
+        "not understood: the mark is to be rest or moving; write put CHANNEL GRAMS rest, or moving",
+    ),
+    (
+        "pile tares",
+        "not understood: the pile is to be board, tare, step, step-tare or tare-step; write pile board, tare, step, step-tare or tare-step",
+    ),
+    (
+        "arithmetic",
+        "not understood: the arithmetic is missing; write arithmetic gram, old or fine",
+    ),
+    (
+        "total 1 2 x",
+        "not understood: the channel is to be a whole number; channels are 1 to 64; write total CHANNEL CHANNEL ..",
+    ),
+    (
+        "records 10001",
+        "not understood: a board has at most 10000 records",
+    ),
+    ("weigh 1", "0 g"),
+];
+
 #[test]
 fn not_understood(rt: HostRuntime) -> Result<(), Fail> {
-    let number =
-        "not understood: the channel is to be a whole number; channels are 1 to 64; write weigh CHANNEL";
-    let grams =
-        "not understood: the weight is to be whole grams from -2147483648 to 2147483647; write tare CHANNEL GRAMS";
-    let unknown = "not understood: no such command; --help lists the commands";
-    let rows = [
-        ("weigh 4294967296", number),
-        ("weigh 99999999999999999999999999999999", number),
-        ("weigh -1", number),
-        ("weigh +1", number),
-        ("weigh 1x", number),
-        (
-            "weigh",
-            "not understood: the channel is missing; write weigh CHANNEL",
-        ),
-        (
-            "weigh 1 2",
-            "not understood: a word too many; write weigh CHANNEL",
-        ),
-        ("tare 1 2147483648", grams),
-        ("tare 1 -2147483649", grams),
-        ("tare 1 -", grams),
-        ("tare 1 --1", grams),
-        ("Weigh 1", unknown),
-        ("weigh1", unknown),
-        (
-            "put 1 5 resting",
-            "not understood: the mark is to be rest or moving; write put CHANNEL GRAMS rest, or moving",
-        ),
-        (
-            "pile tares",
-            "not understood: the pile is to be board, tare, step, step-tare or tare-step; write pile board, tare, step, step-tare or tare-step",
-        ),
-        (
-            "arithmetic",
-            "not understood: the arithmetic is missing; write arithmetic gram, old or fine",
-        ),
-        (
-            "total 1 2 x",
-            "not understood: the channel is to be a whole number; channels are 1 to 64; write total CHANNEL CHANNEL ..",
-        ),
-        (
-            "records 10001",
-            "not understood: a board has at most 10000 records",
-        ),
-        ("weigh 1", "0 g"),
-    ];
-    answers(&rt, rt.alloc(), &rows)
+    answers(&rt, rt.alloc(), &NOT_UNDERSTOOD)
 }
 
 #[test]
