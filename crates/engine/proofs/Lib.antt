@@ -1,2 +1,3 @@
 pub mod Keeps
 pub mod Grants
+pub mod Counted

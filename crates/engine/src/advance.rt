@@ -133,11 +133,10 @@ impl Run {
     // The run after its granted steps, where it goes on before them.
     fn make_steps<N: Arithmetic>(self, program: &Program, memory: &mut Memory<N>, grant: u64) -> Run
         requires going { self.status ≡ Going }
-        requires count { program.now.count ≡ self.count }
         requires stands { memory.old.registers ≡ self.registers }
         ensures loan { IsSameLoan memory.old memory.new }
         ensures does { scene (course_of result).run memory.new.stack.now memory.new.returns.now
-            ≡ granted frame_room N.Arithmetic.rules (held_at program.now.held.now) self.count program.now.image.now grant
+            ≡ granted frame_room N.Arithmetic.rules (held_at program.now.held.now) (length program.now.image.now) program.now.image.now grant
             (scene (course_of self).run memory.old.stack.now memory.old.returns.now) }
         ensures count { result.count ≡ self.count }
     {
@@ -169,8 +168,7 @@ impl Run {
         ensures count { result.count ≡ self.count }
     {
         let program = Program {
-            image,
-            count: self.count,
+            image: &image[..self.count],
             held,
         };
         let mut memory = Memory {

@@ -9,10 +9,8 @@ use machine::{Registers, Return};
 #[derive(Drop)]
 pub(crate) struct Program<'a> {
     pub(crate) image: &'a [u32],
-    pub(crate) count: usize,
     pub(crate) held: &'a Held,
-    ghost short: { count ≤ 4096 },
-    ghost whole: { count ≤ length image.now },
+    ghost short: { length image.now ≤ 4096 },
 }
 
 // The memory lent to a run, and where the run stands in it.

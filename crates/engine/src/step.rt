@@ -1,5 +1,5 @@
 // One step of a run.
-ghost use Rattle.std.specs.Prelude.{◌≡◌, drop, Ok};
+ghost use Rattle.std.specs.Prelude.{◌≡◌, drop, length, Ok};
 ghost use Rattle.machine.specs.Steps.{carried, frame_room, planned, stepped, step as step_of};
 ghost use Rattle.engine.specs.Frames.{Fair, IsSameLoan, held_at};
 
@@ -20,8 +20,8 @@ impl<N: Arithmetic> Memory<'_, N> {
         let m = self.registers;
         match effect {
             Effect::Put(next, place, value) => {
-                let top = m.base + place;
-                self.stack[top] = value;
+                let index = m.base + place;
+                self.stack[index] = value;
                 self.registers = next;
                 None
             }
@@ -45,28 +45,28 @@ impl<N: Arithmetic> Memory<'_, N> {
 
     // What the word at the run's index comes to.
     fn plan(&self, program: &Program) -> Result<Effect<N>, Fault>
-        ensures { result ≡ planned frame_room N.Arithmetic.rules (held_at program.now.held.now) program.now.count program.now.image.now
+        ensures { result ≡ planned frame_room N.Arithmetic.rules (held_at program.now.held.now) (length program.now.image.now) program.now.image.now
             self.now.registers (drop self.now.registers.base self.now.stack.now) self.now.returns.now }
     {
         let registers = self.registers;
-        if registers.index >= program.count {
+        let Some(word) = program.image.get(registers.index) else {
             return Err(IMPOSSIBLE);
-        }
+        };
         let frame = Frame {
             registers,
             values: &self.stack[registers.base..],
             returns: &*self.returns,
             held: program.held,
-            count: program.count,
+            count: program.image.len(),
         };
-        frame.plan(Instruction::decode(program.image[registers.index]))
+        frame.plan(Instruction::decode(*word))
     }
 
     // Carries out the word at the run's index. What lies below the frame stays as it is, and a fault leaves all as it was.
     pub(crate) fn step(&mut self, program: &Program) -> Result<Option<i32>, Fault>
         ensures loan { IsSameLoan self.old self.new }
         ensures does { stepped result self.new.registers self.new.stack.now self.new.returns.now
-            ≡ step_of frame_room N.Arithmetic.rules (held_at program.now.held.now) program.now.count program.now.image.now
+            ≡ step_of frame_room N.Arithmetic.rules (held_at program.now.held.now) (length program.now.image.now) program.now.image.now
             self.old.registers self.old.stack.now self.old.returns.now }
     {
         let effect = self.plan(program)?;
