@@ -58,7 +58,9 @@ impl Instruction {
             Instruction::Out => word(OUT, 0),
             Instruction::Unless(target) => word(UNLESS, target as u32),
             Instruction::Go(target) => word(GO, target as u32),
-            Instruction::Call { arity, target } => { word(CALL, arity as u32 * 65536 + target as u32) }
+            Instruction::Call { arity, target } => {
+                word(CALL, arity as u32 * 65536 + target as u32)
+            }
             Instruction::Back => word(BACK, 0),
             Instruction::Weigh(channel) => word(WEIGH, channel),
             Instruction::Function(arity) => word(FN, arity as u32),
