@@ -3,13 +3,9 @@
 #![tactic(auto)]
 
 use anyhow::anyhow;
-use compiler::compile;
+use compiler::{IMAGE_WORDS, TABLE_WORDS, compile};
 use std::time::Instant;
 use std::{env, fs};
-
-const IMAGE_WORDS: usize = 4_096;
-
-const TABLE_WORDS: usize = 2_000;
 
 fn run(rt: &HostRuntime) -> anyhow::Result<()> {
     let heap = rt.alloc();

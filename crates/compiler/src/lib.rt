@@ -3,4 +3,4 @@
 
 mod stages;
 
-pub use stages::compile;
+pub use stages::{IMAGE_WORDS, TABLE_WORDS, compile};

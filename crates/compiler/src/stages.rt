@@ -11,9 +11,10 @@ use recipe::{Cause, Refusal};
 
 const LONGEST_TEXT: usize = 60_000;
 
-const IMAGE_WORDS: usize = 4_096;
+// The words of image and of work table that a compile is to be lent.
+pub const IMAGE_WORDS: usize = 4_096;
 
-const TABLE_WORDS: usize = 2_000;
+pub const TABLE_WORDS: usize = 2_000;
 
 // The first word of an image, but for the number of its words.
 const HEAD_WORD: u32 = 0x9000_0000;

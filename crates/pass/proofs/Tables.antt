@@ -12,7 +12,7 @@ use Rattle.recipe.specs.Image.{Bound, past, past_all, entries}
 use Rattle.pass.specs.declared.output.Output.{Output}
 use Rattle.pass.specs.declared.cursor.Spot.{Spot}
 use Rattle.pass.specs.declared.names.Function.{Function}
-use Rattle.pass.specs.declared.passes.Declared.{Declared as ADeclared}
+use Rattle.pass.specs.declared.cursor.Counted.{Counted}
 use Rattle.pass.specs.declared.passes.Heads.{Heads}
 use Rattle.pass.specs.Known.{ident, signed, entered, spelled}
 use Rattle.pass.specs.Outputs.{faulted, again, over_with, over_all}
@@ -32,14 +32,14 @@ signatures-++ [] es = refl
 signatures-++ (declare f xs e ∷ ds) es = ap (λ ss. record { name = f.name; arity = length (all xs) } ∷ ss) (signatures-++ ds es)
 
 -- one function more
-pub signs_more : {text : List ℕ} {h h' : Heads} {d : ADeclared} (xs : Several Ident) (e : Expr) (ds : List Declaration) → With text h d h' → d.arity ≡ length (all xs) →
+pub signs_more : {text : List ℕ} {h h' : Heads} {d : Counted} (xs : Several Ident) (e : Expr) (ds : List Declaration) → With text h d h' → d.count ≡ length (all xs) →
     signed h.functions.items ≡ signatures ds → signed h'.functions.items ≡ signatures (ds ++ (declare (ident text h.next.look) xs e ∷ []))
 signs_more {text = text} {h = h} xs e ds w c s =
     ap signed w.listed ∙ (map-append (λ f. record { name = f.name.now; arity = f.arity }) h.functions.items (w.function ∷ [])
     ∙ (ap (λ ss. ss ++ signed (w.function ∷ [])) s ∙ (ap (λ (f : Signature). signatures ds ++ (f ∷ [])) (cc (w.named, w.takes, c))
     ∙ sym (signatures-++ ds (declare (ident text h.next.look) xs e ∷ [])))))
 
-pub enters_more : {text : List ℕ} {h h' : Heads} {d : ADeclared} (base : ℕ) (xs : Several Ident) (e : Expr) (ds : List Declaration) → With text h d h' →
+pub enters_more : {text : List ℕ} {h h' : Heads} {d : Counted} (base : ℕ) (xs : Several Ident) (e : Expr) (ds : List Declaration) → With text h d h' →
     h.next.out.at ≡ past_all base ds → entered h.functions.items ≡ entries base ds → entered h'.functions.items ≡ entries base (ds ++ (declare (ident text h.next.look) xs e ∷ []))
 enters_more {text = text} {h = h} base xs e ds w c s =
     ap entered w.listed ∙ (map-append (λ f. record { name = f.name.now; to = f.target }) h.functions.items (w.function ∷ [])
@@ -76,7 +76,7 @@ past_name text h l p c u = record {
   fault = fault_of u ∙ ap (λ (y : Option Refusal). earliest y (again (spelled (entered h.functions.items)) (ident text h.next.look))) (fault_of p.out);
 }
 
-pub added_on : (text : List ℕ) (functions : List Function) (h : Heads) {h' : Heads} {s : Spot} {d : ADeclared} {m m' : List ℕ} →
+pub added_on : (text : List ℕ) (functions : List Function) (h : Heads) {h' : Heads} {s : Spot} {d : Counted} {m m' : List ℕ} →
     DeclarationsOn text h → PastName text h s → Headed text functions s m d m' → With text h d h' → DeclarationsOn text h'
 added_on text functions h j n e w =
     let more = ap length w.listed ∙ length_push h.functions.items w.function in

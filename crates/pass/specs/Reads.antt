@@ -20,12 +20,11 @@ use Rattle.recipe.specs.declared.cause.Cause.TheVariants.{Grammar, Nesting, Func
 use Rattle.pass.specs.declared.cursor.Level.{Level}
 use Rattle.pass.specs.declared.chain.Chain.{Chain}
 use Rattle.pass.specs.declared.chain.Chain.TheVariants.{Sum, Product}
-use Rattle.pass.specs.declared.descent.Given.{Given}
+use Rattle.pass.specs.declared.cursor.Counted.{Counted}
 use Rattle.pass.specs.declared.descent.Descent.{Descent}
 use Rattle.recipe.specs.Names.{count as argument_count}
 use Rattle.pass.specs.declared.names.Variable.{Variable}
 use Rattle.pass.specs.declared.output.Output.{Output}
-use Rattle.pass.specs.declared.passes.Declared.{Declared as ADeclared}
 use Rattle.pass.specs.declared.names.Function.{Function}
 use Rattle.pass.specs.Known.{Env, env, ident, in_force, spelled, signed, entered}
 use Rattle.recipe.specs.Image.{slots, past, past_all, words, entries, bodies, placed, BACK}
@@ -233,7 +232,7 @@ pub record Gives (part : Part Arguments) (text : List ℕ) (v : Env) (level : Le
 abbrev pub Descends : Part Expr → From → Descent → List Variable → Spot → Level → List ℕ → Result Spot Refusal → List ℕ → Type 0
 Descends part from d scope here level m r m' = Goes part from d.text.now (knows d scope) here level m r m'
 
-abbrev pub GoesCall : List ℕ → Env → Spot → Level → List ℕ → Result Given Refusal → List ℕ → Type 0
+abbrev pub GoesCall : List ℕ → Env → Spot → Level → List ℕ → Result Counted Refusal → List ℕ → Type 0
 GoesCall text v here level m r m' = MatchResult r (λ g. Gives a_call text v level here m g.next m' g.count) (λ e. Refuses from_call text level here e)
 
 -- Inside a loop, whatever was before it: what was through to its start, with one image or another before that, is through to here.
@@ -299,15 +298,15 @@ pub record ParametersSoFar (text : List ℕ) (here s : Spot) (scope : List Varia
   pub read : NamesSoFar (length text) here.count (ahead text here) (length scope) s.count (ahead text s)
   pub made : ParametersMade here.out read.names scope s.out
 
-pub record Headed (text : List ℕ) (functions : List Function) (here : Spot) (m : List ℕ) (d : ADeclared) (m' : List ℕ) : Type 0 where
+pub record Headed (text : List ℕ) (functions : List Function) (here : Spot) (m : List ℕ) (d : Counted) (m' : List ℕ) : Type 0 where
   pub far : here.look.start < d.next.look.start
   pub slow : d.next.out.at + 2 * here.count ≤ here.out.at + 2 * d.next.count + 2
   pub fit : Fit text d.next
   pub read : ReadHead (length text) here.count (ahead text here) d.next.count (ahead text d.next)
   pub made : MadeHead (signed functions) (entered functions) here.out m read.names read.tree d.next.out m'
-  pub counted : d.arity ≡ length (all read.names)
+  pub counted : d.count ≡ length (all read.names)
 
-abbrev pub GoesHead : List ℕ → List Function → Spot → List ℕ → Result ADeclared Refusal → List ℕ → Type 0
+abbrev pub GoesHead : List ℕ → List Function → Spot → List ℕ → Result Counted Refusal → List ℕ → Type 0
 GoesHead text functions here m r m' =
     MatchResult r (λ d. Headed text functions here m d m') (λ e. BadHead (length text) here.count (ahead text here) (cause_number e.cause) e.place)
 
@@ -347,18 +346,18 @@ pub record PastName (text : List ℕ) (h : Heads) (s : Spot) : Type 0 where
   pub fault : s.out.fault ≡ earliest h.next.out.fault (again (spelled (entered h.functions.items)) (ident text h.next.look))
 
 -- One function more, whose name was ahead.
-pub record With (text : List ℕ) (h : Heads) (d : ADeclared) (h' : Heads) : Type 0 where
+pub record With (text : List ℕ) (h : Heads) (d : Counted) (h' : Heads) : Type 0 where
   pub next : h'.next ≡ d.next
   pub over : h'.over ≡ over_with h.over d.next.out.peak h.next.look.start
   pub function : Function
   pub listed : h'.functions.items ≡ h.functions.items ++ (function ∷ [])
   pub named : function.name.now ≡ (ident text h.next.look).name
-  pub takes : function.arity ≡ d.arity
+  pub takes : function.arity ≡ d.count
   pub begins : function.target ≡ h.next.out.at + 1
 
 pub record Added (text : List ℕ) (functions : List Function) (h : Heads) (m : List ℕ) (h' : Heads) (m' : List ℕ) : Type 0 where
   pub inside : Spot
-  pub declared : ADeclared
+  pub declared : Counted
   pub named : PastName text h inside
   pub headed : Headed text functions inside m declared m'
   pub more : With text h declared h'

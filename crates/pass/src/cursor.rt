@@ -23,6 +23,13 @@ pub(crate) struct Level {
     pub(crate) held: usize,
 }
 
+// What stands after a call's arguments or after a declaration, and how many arguments or parameters there are.
+#[derive(Clone, Copy, PartialEq, Eq, Debug)]
+pub(crate) struct Counted {
+    pub(crate) next: Spot,
+    pub(crate) count: usize,
+}
+
 impl Spot {
     // Why the text is refused, and here.
     pub(crate) fn refused(self, cause: Cause) -> Refusal

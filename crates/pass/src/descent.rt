@@ -5,7 +5,7 @@ ghost use Rattle.lexer.specs.declared.Kind.TheVariants.{Name as NameKind, Word a
 ghost use Rattle.recipe.specs.declared.Word.TheVariants.{Let as LetWord, Ifp as IfpWord, Open as OpenWord, Weigh as WeighWord};
 
 use crate::chain::Chain;
-use crate::cursor::{Level, Spot};
+use crate::cursor::{Counted, Level, Spot};
 use crate::instruction::Instruction;
 use crate::names::{Function, Scope, Variable, Within};
 use lexer::Kind;
@@ -16,13 +16,6 @@ use recipe::{Cause, Refusal, Word};
 pub(crate) struct Descent<'t, 'f> {
     pub(crate) text: &'t [u8],
     pub(crate) functions: &'f [Function<'t>],
-}
-
-// The arguments of a call, and how many they are.
-#[derive(Clone, Copy, PartialEq, Eq, Debug)]
-pub(crate) struct Given {
-    pub(crate) next: Spot,
-    pub(crate) count: usize,
 }
 
 impl<'t> Descent<'t, '_> {
@@ -267,7 +260,7 @@ impl<'t> Descent<'t, '_> {
         level: Level,
         scope: &mut Scope<'t>,
         image: &mut [u32],
-    ) -> Result<Given, Refusal>
+    ) -> Result<Counted, Refusal>
         requires { Ready self.now here.now level scope.old.items }
         ensures goes { GoesCall self.now.text.now (knows self.now scope.old.items) here.now level image.old result image.new }
         ensures kept { scope.new ≡ scope.old }
@@ -280,6 +273,6 @@ impl<'t> Descent<'t, '_> {
             count += 1;
         }
         let next = so_far.expect(self.text, Kind::Word(Word::Close))?;
-        Ok(Given { next, count })
+        Ok(Counted { next, count })
     }
 }

@@ -4,7 +4,7 @@ ghost use Rattle.pass.specs.Outputs.{over_with};
 ghost use Rattle.pass.specs.Reads.{Fit, Takes, GoesHead, Limited, DeclarationsOn, GoesDeclaration, GoesDeclarations, GoesRecipe, GoesOver};
 
 use crate::base::Base;
-use crate::cursor::{Level, Spot};
+use crate::cursor::{Counted, Level, Spot};
 use crate::descent::Descent;
 use crate::instruction::Instruction;
 use crate::names::{Function, Scope, Variable, function_of, variable_of};
@@ -12,13 +12,6 @@ use crate::output::Output;
 use arrayvec::ArrayVec;
 use lexer::{Kind, next_token};
 use recipe::{Cause, Refusal, Word};
-
-// What stands after a declaration, and how many parameters it has.
-#[derive(Clone, Copy, PartialEq, Eq, Debug)]
-pub(crate) struct Declared {
-    pub(crate) next: Spot,
-    pub(crate) arity: usize,
-}
 
 // The functions so far, and the place of the first whose frame is too large.
 #[derive(PartialEq, Eq, Debug, Drop)]
@@ -85,7 +78,7 @@ impl<'t> Descent<'t, '_> {
     }
 
     // A declaration, from its bracket on: its words begin with the number of its parameters, and end with the way back.
-    fn head(&self, here: &Spot, image: &mut [u32]) -> Result<Declared, Refusal>
+    fn head(&self, here: &Spot, image: &mut [u32]) -> Result<Counted, Refusal>
         requires { (Fit self.now.text.now here.now) × (here.now.out.at + 2 ≤ 2 * here.now.count + 4100) }
         ensures { GoesHead self.now.text.now self.now.functions.now here.now image.old result image.new }
     {
@@ -107,12 +100,12 @@ impl<'t> Descent<'t, '_> {
             held: arity,
         };
         let last = self.expression(&body, level, &mut scope, image)?;
-        Ok(Declared {
+        Ok(Counted {
             next: Spot {
                 out: last.out.emit(image, Instruction::Back),
                 ..last
             },
-            arity,
+            count: arity,
         })
     }
 
@@ -136,7 +129,7 @@ impl<'t> Descent<'t, '_> {
         let inside = self.head(&named, image)?;
         heads.functions.push(Function {
             name,
-            arity: inside.arity,
+            arity: inside.count,
             target: (here.out.at + 1) as u16,
         });
         heads.over = first_over(heads.over, inside.next.out.peak, here.look.start);
