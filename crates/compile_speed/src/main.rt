@@ -1,4 +1,4 @@
-// How long a compile takes. `speed FILE` compiles the recipe in FILE and says what came of it; `speed FILE N` compiles
+// How long a compile takes. `compile_speed FILE` compiles the recipe in FILE and says what came of it; `compile_speed FILE N` compiles
 // it N times and adds the microseconds of one compile.
 #![tactic(auto)]
 

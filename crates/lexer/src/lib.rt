@@ -12,7 +12,7 @@ const LARGEST_NUMBER: u32 = 268_435_455;
 const LONGEST_NAME: usize = 16;
 
 // What a token is. A name's bytes, and not its spelling, are what a lexeme has.
-// What is no token and the end are kinds too: both have a place, and a parser asks for them in one match with the others.
+// What is no token and the end are kinds too: both have a place, and a parser refuses them as every token that does not fit.
 #[derive(Clone, Copy, PartialEq, Eq, Debug)]
 pub enum Kind {
     Number(u32),
