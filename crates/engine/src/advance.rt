@@ -99,16 +99,11 @@ impl Run {
             ≡ course (run_at (course_of self).run registers made (standing (self.used + made) self.allowance)) self.count }
     {
         let used = self.used + made;
-        let status = if used < self.allowance {
-            Status::Going
-        } else {
-            Status::Spent
-        };
         Run {
             registers,
             used,
             allowance: self.allowance,
-            status,
+            status: status_after(Ok(None), registers.index, used, self.allowance),
             count: self.count,
         }
     }
