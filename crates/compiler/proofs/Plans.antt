@@ -14,7 +14,7 @@ use Rattle.recipe.proofs.Outputs.{image_length, image_bound, image_placed, place
 use Rattle.pass.specs.declared.names.Function.{Function}
 use Rattle.pass.specs.declared.passes.Pass.{Pass}
 use Rattle.pass.specs.Known.{signed, entered}
-use Rattle.pass.specs.Reads.{Passed, frame_verdict}
+use Rattle.pass.specs.Reads.{Passed, frame_verdict, functions_of}
 use Rattle.compiler.specs.Stages.{Planned}
 
 -- All words leave room for their number.
@@ -31,9 +31,9 @@ same_main a b = cc
 
 -- So the second of two passes knows the functions and where their words begin.
 abbrev Second : List ℕ → Pass → List ℕ → Pass → List ℕ → Type 0
-Second text p m q m' = Passed text p.functions.items p.past_main.index m q m'
+Second text p m q m' = Passed text (functions_of p) p.past_main.index m q m'
 
-knows_names : {text m m₁ n m₂ : List ℕ} {p q : Pass} {b : ℕ} (f : Passed text [] b m p m₁) (s : Second text p n q m₂) → signed p.functions.items ≡ signatures (all s.declared)
+knows_names : {text m m₁ n m₂ : List ℕ} {p q : Pass} {b : ℕ} (f : Passed text [] b m p m₁) (s : Second text p n q m₂) → signed (functions_of p) ≡ signatures (all s.declared)
 knows_names f s = f.signs ∙ ap (λ ds. signatures (all ds)) (same_declared f.reads s.reads)
 
 begins_there : {text m m₁ n m₂ : List ℕ} {p q : Pass} {b : ℕ} (f : Passed text [] b m p m₁) (s : Second text p n q m₂) → p.past_main.index ≡ past 1 s.main + 1
@@ -75,6 +75,7 @@ planned f s h o =
       main_end = s.main_end;
       functions_end = end;
       sized = end ∙ sym (image_length s.declared s.at_in s.main);
+      few = s.few;
       enters = s.enters ∙ ap (λ i. entries i (all s.declared)) (begins_there f s);
     }
 
@@ -104,12 +105,12 @@ image_written m ds q e =
     sym (placed_late m 0 n (main ++ (BACK ∷ own)) ∙ ap (λ (l : List ℕ). set l 0 n) g)
 
 -- The third pass, and the head after it.
-pub head_written : {text m m₁ m₂ : List ℕ} {p q : Pass} (k : Planned text p) → Passed text p.functions.items p.past_main.index m q m₁ →
+pub head_written : {text m m₁ m₂ : List ℕ} {p q : Pass} (k : Planned text p) → Passed text (functions_of p) p.past_main.index m q m₁ →
     4096 ≤ length m → m₂ ≡ set m₁ 0 (HEAD p.past_functions) → m₂ ≡ image_after (accepted (image (recipe k.declared k.at_in k.main))) m
 head_written {text = text} {m = m} {m₁ = m₁} {p = p} k t h b =
     let r = recipe k.declared k.at_in k.main in
     let base = past 1 k.main + 1 in
-    let known = entered p.functions.items in
+    let known = entered (functions_of p) in
     let F = entries base (all k.declared) in
     let written : m₁ ≡ laid m F base k.declared k.main =
     t.written ∙ (ap (λ ds. laid m known p.past_main.index ds t.main) (same_declared t.reads k.reads)

@@ -11,7 +11,7 @@ use Rattle.recipe.specs.Image.{past, past_all, entries, image}
 use Rattle.recipe.specs.Compiled.{Answer, accepted, refused, then, understood, compiled, compile_answer, image_after, untouched, answered, said}
 use Rattle.pass.specs.declared.passes.Pass.{Pass}
 use Rattle.pass.specs.Known.{entered}
-use Rattle.pass.specs.Reads.{frame_verdict}
+use Rattle.pass.specs.Reads.{frame_verdict, functions_of}
 
 -- the answer that a refusal is
 abbrev pub refusal : Refusal → Answer
@@ -43,7 +43,8 @@ pub record Planned (text : List ℕ) (p : Pass) : Type 0 where
   pub main_end : p.past_main.index ≡ past 1 main + 1
   pub functions_end : p.past_functions ≡ past_all (past 1 main + 1) (all declared)
   pub sized : p.past_functions ≡ length (image (recipe declared at_in main))
-  pub enters : entered p.functions.items ≡ entries (past 1 main + 1) (all declared)
+  pub few : p.count ≤ 32
+  pub enters : entered (functions_of p) ≡ entries (past 1 main + 1) (all declared)
 
 abbrev pub Plans : List ℕ → Result Pass Refusal → Type 0
 Plans text r = MatchResult r (λ p. Planned text p) (λ e. understood text ≡ refusal e)

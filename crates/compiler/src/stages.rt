@@ -76,7 +76,8 @@ pub(crate) fn plan(text: &[u8]) -> Result<Pass<'_>, Refusal>
     ensures { Plans text.now result }
 {
     let first = Base::default().over(text, &[], &mut [])?;
-    let second = first.past_main.over(text, &first.functions, &mut [])?;
+    let functions = &first.table[..first.count];
+    let second = first.past_main.over(text, functions, &mut [])?;
     judge(&second)?;
     Ok(second)
 }
@@ -94,7 +95,8 @@ pub(crate) fn write(text: &[u8], plan: &Pass, image: &mut [u32]) -> Result<(), R
     requires { (Planned text.now plan.now) × (4096 ≤ length image.old) }
     ensures { Written text.now image.old result image.new }
 {
-    plan.past_main.over(text, &plan.functions, image)?;
+    let functions = &plan.table[..plan.count];
+    plan.past_main.over(text, functions, image)?;
     put_head(image, plan.past_functions);
     Ok(())
 }

@@ -1,5 +1,5 @@
 -- What the reading functions promise.
-use Rattle.std.specs.Prelude.{◌≡◌, ℕ, ◌+◌, ◌*◌, ◌<◌, ◌≤◌, ◌≢◌, false, ◌⊎◌, List, [], ◌∷◌, ◌++◌, length, Some, None, Option, Result, MatchResult, ◌==◌}
+use Rattle.std.specs.Prelude.{◌≡◌, ℕ, ◌+◌, ◌*◌, ◌<◌, ◌≤◌, ◌≢◌, false, ◌⊎◌, List, [], ◌∷◌, ◌++◌, length, take, Some, None, Option, Result, MatchResult, ◌==◌}
 use Rattle.std.proofs.Math.Option.{none, some}
 use Rattle.std.proofs.Math.Option as opt
 use Rattle.recipe.specs.declared.Op.{Op}
@@ -385,6 +385,10 @@ abbrev pub frame_verdict : Option ℕ → Verdict Unit
 frame_verdict None = fine tt
 frame_verdict (Some p) = wrong (cause_number Frame) p
 
+-- The functions that a pass found, which stand first in its table.
+abbrev pub functions_of : Pass → List Function
+functions_of p = take p.count p.table
+
 -- A whole recipe, whose functions' words begin at `base`.
 pub record Passed (text : List ℕ) (functions : List Function) (base : ℕ) (m : List ℕ) (p : Pass) (m' : List ℕ) : Type 0 where
   pub declared : Several Declaration
@@ -395,9 +399,10 @@ pub record Passed (text : List ℕ) (functions : List Function) (base : ℕ) (m 
   pub main_end : p.past_main.index ≡ past 1 main + 1
   pub faulty : p.fault ≡ earliest None (twice [] (declared_names (all declared)) ++ (body_faults (signed functions) (all declared) ++ faults (signed functions) [] main))
   pub framed : frame_verdict p.over ≡ recipe_frames (recipe declared at_in main)
-  pub few : length p.functions.items ≤ 32
-  pub signs : signed p.functions.items ≡ signatures (all declared)
-  pub enters : entered p.functions.items ≡ entries base (all declared)
+  pub few : p.count ≤ 32
+  pub sized : length p.table ≡ 32
+  pub signs : signed (functions_of p) ≡ signatures (all declared)
+  pub enters : entered (functions_of p) ≡ entries base (all declared)
   pub written : m' ≡ placed (placed m base (bodies (entered functions) base (all declared))) 1 (words (entered functions) [] 0 1 main ++ (BACK ∷ []))
 
 -- A pass over a text, with functions that are known.

@@ -22,14 +22,15 @@ pub(crate) struct Heads<'t> {
 }
 
 // What a pass over a recipe comes to: the indices past the functions' words and past the main expression's, the first fault of the names,
-// the place of the first frame that is too large, and the functions.
-#[derive(Clone, PartialEq, Eq, Debug, Drop)]
+// the place of the first frame that is too large, and the functions, which stand first in the table.
+#[derive(Clone, Copy, PartialEq, Eq, Debug)]
 pub struct Pass<'t> {
     pub past_functions: usize,
     pub past_main: Base,
     pub fault: Option<Refusal>,
     pub over: Option<usize>,
-    pub functions: ArrayVec<Function<'t>, 32>,
+    pub table: [Function<'t>; 32],
+    pub count: usize,
 }
 
 // Past the name of a function, after as many others.
@@ -190,12 +191,16 @@ impl Base {
             return Err(last.refused(Cause::Grammar));
         }
         let out = last.out.emit(image, Instruction::Back);
+        let count = heads.functions.len();
+        let mut table = [Function::default(); 32];
+        table[..count].copy_from_slice(&heads.functions);
         Ok(Pass {
             past_functions: heads.next.out.at,
             past_main: Base { index: out.at },
             fault: out.fault,
             over: first_over(heads.over, out.peak, heads.next.look.start),
-            functions: heads.functions,
+            table,
+            count,
         })
     }
 }

@@ -13,5 +13,4 @@ pub returns : goal.returns
 returns c =
     let k = c.requires.0 in
     let m = c.args.image.now in
-    let t = rw c.deref.ensures.0 at c.in_ok-over.ensures in
-    head_written k t c.requires.1 c.put_head.ensures ∙ ap (λ a. image_after a m) (sym k.answer)
+    head_written k c.in_ok-over.ensures c.requires.1 c.put_head.ensures ∙ ap (λ a. image_after a m) (sym k.answer)

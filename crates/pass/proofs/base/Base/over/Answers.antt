@@ -1,6 +1,7 @@
-use Rattle.std.proofs.Common.{ℕ, length, None, Option, refl, ap, ◌∙◌, arith}
+use Rattle.std.proofs.Common.{◌≡◌, ℕ, length, None, Option, sym, refl, ap, ◌∙◌, arith, length-append}
+use Rattle.std.proofs.lemmas.List.{take_at, length-drop}
 use Rattle.recipe.specs.Names.{all}
-use Rattle.pass.specs.Known.{env}
+use Rattle.pass.specs.Known.{env, signed, entered}
 use Rattle.pass.specs.Outputs.{over_with, over_all}
 use Rattle.pass.specs.Reads.{frame_verdict}
 use Rattle.lexer.specs.declared.Kind.TheVariants.{End}
@@ -35,6 +36,8 @@ returns c =
     let d = g.1 in
     let ds = all d.read.declared in
     let e = r.read.tree in
+    let copied = c.copy_from_slice.ensures.after ∙ c.deref.ensures.0 in
+    let counted : length c.copy_from_slice.new.self ≡ c.len-count.result = ap length copied ∙ sym c.len-count.ensures.value in
     let m = main_made c.args.self.index c.args.image.now ds e (ap (λ vs. env c.args.functions.now vs) c.new.ensures) refl refl (fault_of w.0.out ∙ d.made.fault) d.made.written
     r.made c.emit-out.ensures.made c.emit-out.ensures.written refl in
     record {
@@ -47,8 +50,9 @@ returns c =
       faulty = m.2;
       framed = ap frame_verdict (c.first_over.ensures ∙ (ap (λ (o : Option ℕ). over_with o c.emit-out.result.peak h.next.look.start) d.found.framed
           ∙ ap (λ n. over_with (over_all None ds) n h.next.look.start) m.1)) ∙ frames_over ds h.next.look.start e;
-      few = g.0.few;
-      signs = d.found.signs;
-      enters = d.found.enters;
+      few = omega (arith, g.0.few);
+      sized = simp (length-append, length-drop) (omega (arith, g.0.few));
+      signs = ap signed (take_at _ _ _ counted ∙ copied) ∙ d.found.signs;
+      enters = ap entered (take_at _ _ _ counted ∙ copied) ∙ d.found.enters;
       written = m.3;
     }
