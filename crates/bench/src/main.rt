@@ -44,13 +44,18 @@ A command that is not understood is answered 'not understood', with the reason, 
 ";
 
 // The record of one session, line by line as the commands come.
-fn record(rt: &HostRuntime, heap: Global, input: impl BufRead + Drop) -> anyhow::Result<()> {
+// They are read into one room, so that a line no longer than those before it wants no memory.
+fn record(rt: &HostRuntime, heap: Global, mut input: impl BufRead + Drop) -> anyhow::Result<()> {
     let mut bench = Bench::new(heap)?;
     let mut out = rt.stdout();
-    for line in input.split(heap, b'\n') {
-        let line = line?;
+    let mut text = Vec::new(heap);
+    for _ in 0..u64::MAX {
+        text.clear();
+        if input.read_until(b'\n', &mut text)? == 0 {
+            break;
+        }
         // in the record a line that begins with blanks is one for people
-        let line = trimmed(&line);
+        let line = trimmed(&text);
         if let Some(answer) = bench.take(heap, line)? {
             out.write_all(line)?;
             writeln!(out, ": {answer}")?;

@@ -108,26 +108,34 @@ fn answer(
     match file_bytes(rt, file) {
         Ok(text) => Ok(print(out, command, &session.load(rt.alloc(), name, text)?)?),
         Err(error) => {
+            // put together first, since the words of an error come in parts, and each would be a write of its own
+            let reason = format!(in rt.alloc(); "{error}")?;
             out.write_all(command)?;
-            Ok(writeln!(out, ": not understood: {error}")?)
+            Ok(writeln!(out, ": not understood: {reason}")?)
         }
     }
 }
 
 // The record of one session, line by line as the commands come. The lines of a recipe's text belong to one command.
-fn record(rt: &HostRuntime, input: impl BufRead + Drop) -> anyhow::Result<()> {
+// They are read into one room, so that a line no longer than those before it wants no memory to be read.
+fn record(rt: &HostRuntime, mut input: impl BufRead + Drop) -> anyhow::Result<()> {
     let heap = rt.alloc();
     let mut session = Session::new(heap)?;
     let mut out = rt.stdout();
     let mut command: Vec<u8> = Vec::new(heap);
-    for line in input.split(heap, b'\n') {
-        let line = line?;
+    let mut text = Vec::new(heap);
+    for _ in 0..u64::MAX {
+        text.clear();
+        if input.read_until(b'\n', &mut text)? == 0 {
+            break;
+        }
+        let line = text.strip_suffix(b"\n").unwrap_or(&text);
         if !session.has_draft() {
             command.clear();
             // in the record a line that begins with blanks is one for people
-            command.extend_from_slice(trimmed(&line))?;
+            command.extend_from_slice(trimmed(line))?;
         }
-        if let Some(reply) = session.take(heap, &line)? {
+        if let Some(reply) = session.take(heap, line)? {
             answer(rt, &mut out, &mut session, &command, reply)?;
         }
     }

@@ -32,8 +32,7 @@ fn write_place(out: &mut impl Write, text: &[u8], place: usize) -> io::Result<()
     let column = begun.len().saturating_add(1);
     writeln!(out, "  line {line}, column {column}:")?;
     out.write_all(b"  ")?;
-    out.write_all(begun)?;
-    out.write_all(left)?;
+    out.write_all(&text[before.len() - begun.len()..before.len() + left.len()])?;
     out.write_all(b"\n  ")?;
     write_blanks(out, begun)?;
     out.write_all(b"^\n")
