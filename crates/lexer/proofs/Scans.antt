@@ -6,7 +6,6 @@ use Rattle.std.specs.Char.{is_ascii_alphabetic, is_ascii_alphanumeric}
 use Rattle.std.proofs.lemmas.Slice.Eq.{bytes_eq-Decides}
 use Rattle.std.proofs.lemmas.List.Sums.{prefix_len_is}
 use Rattle.std.proofs.lemmas.List.{append-nil, drop-drop, get_or-drop, length-drop, drop_all}
-use Rattle.std.proofs.lemmas.List.Folds.{fold_along}
 use Rattle.std.proofs.lemmas.Bool.{or_cases, or_left, eqb-true, leb-true, cases_Bool, le-leb, lt-leb, and_parts, cases_lt}
 use Rattle.recipe.specs.Tokens.{Token, Name as AName, blank, digit, letter, scan, idle, digits, letters, number_token, name_token, sign}
 use Rattle.lexer.specs.Lexed.{tokens_from, IsToken, then_from, token_of, Begins, Proper, Stands, Unbroken, worth}
@@ -274,21 +273,20 @@ pub end_begins : (cs : List ℕ) → length cs ≡ 0 → Begins cs End 0
 end_begins [] e = record { fits = omega arith; proper = refl; small = tt; unbroken = λ k a b. absurd (omega arith); reads = λ text p g. ap (scan idle p) g }
 end_begins (c ∷ cs) e = absurd (omega arith)
 
--- ---- a value that saturates
-abbrev more : ℕ → ℕ → ℕ
-more v c = min (min (v * 10) 4294967295 + (c - 48)) 4294967295
+-- ---- a number that is too large
+worth_rises : (cs : List ℕ) (n : ℕ) → n ≤ more_worth n cs
+worth_rises [] n = omega arith
+worth_rises (c ∷ cs) n = let h = worth_rises cs (10 * n + (c - 48)) in omega arith
 
-pub saturates : (cs : List ℕ) → fold more 0 cs ≡ min (worth cs) 4294967295
-saturates cs = fold_along more (λ n c. 10 * n + (c - 48)) (λ v n. v ≡ min n 4294967295) (λ v n c h. omega arith) 0 0 cs refl
+-- the first digits are worth no more than all
+worth_front : (cs : List ℕ) (i n : ℕ) → more_worth n (take i cs) ≤ more_worth n cs
+worth_front cs zero n = worth_rises cs n
+worth_front [] (suc i) n = worth_rises [] n
+worth_front (c ∷ cs) (suc i) n = worth_front cs i (10 * n + (c - 48))
 
-pub number_small : (cs : List ℕ) (v : ℕ) → v ≡ fold more 0 cs → v ≤ 268435455 → Stands (λ p. number_token p (worth cs) ∷ []) cs (Number v)
-number_small cs v e h =
-    let s = saturates cs in let g : worth cs ≡ v = omega arith in
-    ((λ text p e b. rw (g, le-leb v 268435455 h) refl), (tt, h))
-
-pub number_large : (cs : List ℕ) (v : ℕ) → v ≡ fold more 0 cs → 268435455 < v → Stands (λ p. number_token p (worth cs) ∷ []) cs (Bad NumberTooLarge)
-number_large cs v e h =
-    let s = saturates cs in let g : 268435455 < worth cs = omega arith in
+pub number_large : (cs : List ℕ) (i : ℕ) → 268435455 < worth (take i cs) → Stands (λ p. number_token p (worth cs) ∷ []) cs (Bad NumberTooLarge)
+number_large cs i h =
+    let f = worth_front cs i 0 in let g : 268435455 < worth cs = omega arith in
     ((λ text p e b. rw (lt-leb (worth cs) 268435455 g) refl), (tt, tt))
 
 -- ---- reserved words

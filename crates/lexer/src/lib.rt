@@ -31,10 +31,11 @@ pub struct Lexeme {
     pub end: usize,
 }
 
+// Four comparisons make one test of a bit, and a pattern up to four tests. Each token's first byte pays for them.
 fn is_blank(byte: u8) -> bool
     ensures { result ≡ blank byte }
 {
-    matches!(byte, b' ' | b'\t' | b'\r' | b'\n')
+    byte == b' ' || byte == b'\t' || byte == b'\r' || byte == b'\n'
 }
 
 // How many bytes at the front pass a test.
@@ -47,20 +48,18 @@ fn front<F: Fn(u8) -> bool>(bytes: &[u8], passes: F) -> usize
     bytes.iter().take_while(|byte| passes(**byte)).count()
 }
 
-// What a whole run of digits is. Where the value saturates it is too large all the more.
+// What a whole run of digits is. Where some of them are too large a number already, so are all of them.
 fn number(digits: &[u8]) -> Kind
     ensures { Stands (λ p. number_token p (worth digits.now) ∷ []) digits.now result }
 {
-    let value = digits.iter().fold(0u32, |value, digit| {
-        value
-            .saturating_mul(10)
-            .saturating_add(u32::from(digit.saturating_sub(b'0')))
-    });
-    if value <= LARGEST_NUMBER {
-        Kind::Number(value)
-    } else {
-        Kind::Bad(Cause::NumberTooLarge)
+    let mut value = 0;
+    for digit in digits {
+        value = 10 * value + u32::from(*digit).saturating_sub(u32::from(b'0'));
+        if value > LARGEST_NUMBER {
+            return Kind::Bad(Cause::NumberTooLarge);
+        }
     }
+    Kind::Number(value)
 }
 
 // What a whole run of letters and digits is. A reserved word is never too long.

@@ -1,17 +1,10 @@
-use Rattle.std.proofs.Common.{rules}
-use Rattle.std.proofs.lemmas.Iterator.{YieldsList-from_slice}
-use Rattle.std.proofs.lemmas.Iterator.Consumers.{fold_from_yields_List}
-use Rattle.lexer.proofs.Scans.{number_small, number_large}
+use Rattle.std.proofs.Common.{◌+◌, ◌-◌, ◌*◌, arith}
+use Rattle.std.proofs.lemmas.List.Sums.{fold_more}
+use Rattle.lexer.proofs.Scans.{number_large}
 use Rattle.lexer.proofs.number.Goals as goal
 
-pub returns-then-value-le-LARGEST_NUMBER : goal.returns-then-value-le-LARGEST_NUMBER
-returns-then-value-le-LARGEST_NUMBER c =
-    number_small c.args.digits.now c.fold-value.result
-    (fold_from_yields_List _ _ _ _ c.fold-value.ensures.ran (YieldsList-from_slice c.args.digits.now cc) (λ a x b q k. search rules))
-    c.if-value-le-LARGEST_NUMBER.true
-
-pub returns-else-value-le-LARGEST_NUMBER : goal.returns-else-value-le-LARGEST_NUMBER
-returns-else-value-le-LARGEST_NUMBER c =
-    number_large c.args.digits.now c.fold-value.result
-    (fold_from_yields_List _ _ _ _ c.fold-value.ensures.ran (YieldsList-from_slice c.args.digits.now cc) (λ a x b q k. search rules))
-    c.if-value-le-LARGEST_NUMBER.false
+pub returns-then-value-gt-LARGEST_NUMBER : goal.returns-then-value-gt-LARGEST_NUMBER
+returns-then-value-gt-LARGEST_NUMBER c =
+    let digits = c.args.digits.now in let i = c.loop-digit.digit-index in
+    let more = fold_more (λ n b. 10 * n + (b - 48)) 0 digits i 0 c.loop-digit-test.true in
+    number_large digits (i + 1) (omega arith)
