@@ -1,5 +1,5 @@
 // Compilation of a text, stage by stage.
-ghost use Rattle.std.specs.Prelude.{◌≡◌, ◌<◌, ◌≤◌, length, slice_set};
+ghost use Rattle.std.specs.Prelude.{◌≡◌, ◌<◌, ◌≤◌, length, replicate, slice_set};
 ghost use Rattle.recipe.specs.Compiled.{Compiles};
 ghost use Rattle.recipe.specs.Image.{HEAD};
 ghost use Rattle.recipe.specs.Theorem.{Meaning};
@@ -36,6 +36,13 @@ pub(crate) fn admit(text: &[u8], image: &[u32], table: &[u32]) -> Result<(), Ref
         });
     }
     Ok(())
+}
+
+// Every word of the work table, however many there are.
+pub(crate) fn clear(table: &mut [u32])
+    ensures { table.new ≡ replicate (length table.old) 0 }
+{
+    table.fill(0);
 }
 
 // The first that is no token is refused. Where a token begins is known once the one before it has been read.
@@ -119,6 +126,6 @@ pub fn compile(text: &[u8], image: &mut [u32], table: &mut [u32]) -> Result<usiz
     ensures meaning { Meaning text.now (length table.old) result image.old image.new }
 {
     admit(text, image, table)?;
-    table.fill(0);
+    clear(table);
     translate(text, image)
 }

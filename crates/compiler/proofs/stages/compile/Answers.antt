@@ -14,5 +14,5 @@ returns-in_err-admit c =
 
 pub returns : goal.returns
 returns c =
-    let a = translated c.args.text.now c.args.image.now c.args.table.now c.in_ok-admit.ensures c.translate.ensures (c.fill.ensures.after (λ y e. e)) in
+    let a = translated c.args.text.now c.args.image.now c.args.table.now c.in_ok-admit.ensures c.translate.ensures c.clear.ensures in
     record { answer = a; meaning = means a }
